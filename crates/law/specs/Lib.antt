@@ -1,0 +1,5 @@
+pub mod Faults
+pub mod Checks
+pub mod Answers
+pub mod Log
+pub mod Law
