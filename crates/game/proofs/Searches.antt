@@ -4,10 +4,11 @@ use mathlib.Core.Bool.{Bool, true, false, cond, _&&_, _||_}
 use mathlib.Core.Logic.{_⊎_, inl, inr, ⊎-elim}
 use Prim.Native.Nat.{ℕ, zero, suc, _+_, _≤_, _<_, max}
 use native.Mathlib.Omega.{arith}
+use native.Mathlib.Numerals.{add-one}
 use Rattle.std.specs.Options.{isSome, valueOr}
 use Rattle.std.specs.Orderings.{Decides}
 use Rattle.std.proofs.shelf.Ways.{decides-below-and, decides-below-or}
-use Rattle.std.proofs.shelf.Tests.{eqb-true, eq-eqb, cases-bool, cases-lt, cond-true, cond-false, true≢false, false≢true, both-ways}
+use Rattle.std.proofs.shelf.Tests.{eqb-true, eq-eqb, and-from, or-left, cases-bool, cases-lt, cond-true, cond-false, true≢false, false≢true, both-ways}
 use Rattle.std.specs.declared.option.Option.{Option}
 use Rattle.std.specs.declared.option.Option.the-variants.{None, Some}
 use Rattle.game.specs.Ranks.{is, leads-to}
@@ -166,3 +167,67 @@ greatest-le f (suc n) top h =
     go : (o : Option ℕ) → f n ≡ o → valueOr o 0 ≤ top
     go None e = omega arith
     go (Some r) e = h n r (omega arith) e
+
+-- One number more, as a loop goes on.
+
+pub none-more : (p : ℕ → Bool) (i : ℕ) → first-below p i ≡ None → p i ≡ false → first-below p (i + 1) ≡ None
+none-more p i e f = ap (first-below p) (add-one i) ∙ ap (λ o. or-else o (cond (p i) (Some i) None)) e ∙ cond-false (p i) (Some i) None f
+
+pub found : (p : ℕ → Bool) (i n : ℕ) → first-below p i ≡ None → p i ≡ true → i < n → Some i ≡ first-below p n
+found p i n e t h =
+    let got = first-some p n i h t in
+    let is = first-is p n (got .0) (got .1) in
+    let same : got .0 ≡ i = ⊎-elim (λ lt. absurd (both-ways _ (first-none p i e (got .0) lt) (is .passes))) (λ ge. omega (arith, got .2)) (cases-lt (got .0) i) in
+    sym (got .1 ∙ ap Some same)
+
+pub some-more : (p : ℕ → Bool) (i : ℕ) (b : Bool) → b ≡ some-below p i → p i ≡ false → b ≡ some-below p (i + 1)
+some-more p i b e f = e ∙ ap (λ x. x || some-below p i) (sym f) ∙ ap (some-below p) (sym (add-one i))
+
+pub some-now : (p : ℕ → Bool) (i : ℕ) → p i ≡ true → true ≡ some-below p (i + 1)
+some-now p i f = sym (ap (some-below p) (add-one i) ∙ or-left (p i) _ f)
+
+pub all-more : (p : ℕ → Bool) (i : ℕ) → all-below p i ≡ true → p i ≡ true → all-below p (i + 1) ≡ true
+all-more p i e f = ap (all-below p) (add-one i) ∙ and-from (p i) _ f e
+
+pub all-fails : (p : ℕ → Bool) (i n : ℕ) → i < n → p i ≡ false → all-below p n ≡ false
+all-fails p i n h f = ⊎-elim (λ t. absurd (both-ways _ f (all-decides p n .0 t i h))) (λ no′. no′) (cases-bool (all-below p n))
+
+pub some-step : (p : ℕ → Bool) (i : ℕ) (b : Bool) → b ≡ some-below p i → (b || p i) ≡ some-below p (i + 1)
+some-step p i b e = swap b (p i) ∙ ap (λ x. p i || x) e ∙ ap (some-below p) (sym (add-one i))
+  where
+    swap : (x y : Bool) → (x || y) ≡ (y || x)
+    swap true true = refl
+    swap true false = refl
+    swap false true = refl
+    swap false false = refl
+
+pub first-of-more : {A : Type 0} (f : ℕ → Option A) (i : ℕ) → first-of f i ≡ None → f i ≡ None → first-of f (i + 1) ≡ None
+first-of-more f i e n = ap (first-of f) (add-one i) ∙ ap (λ o. or-else o (f i)) e ∙ n
+
+pub first-of-found : {A : Type 0} (f : ℕ → Option A) (i n : ℕ) (x : A) → first-of f i ≡ None → f i ≡ Some x → i < n → Some x ≡ first-of f n
+first-of-found f i zero x e s h = absurd (omega arith)
+first-of-found f i (suc n) x e s h =
+    ⊎-elim
+    (λ lt. sym (ap (λ o. or-else o (f n)) (sym (first-of-found f i n x e s lt))))
+    (λ ge. let same : i ≡ n = omega arith in sym (ap (λ o. or-else o (f n)) (ap (first-of f) (sym same) ∙ e) ∙ ap f (sym same) ∙ s))
+    (cases-lt i n)
+
+pub count-equal : (p q : ℕ → Bool) (n : ℕ) → ((k : ℕ) → k < n → p k ≡ q k) → count-below p n ≡ count-below q n
+count-equal p q zero h = refl
+count-equal p q (suc n) h = ap (λ t. cond t 1 0 + count-below p n) (h n (omega arith)) ∙ ap (λ r. cond (q n) 1 0 + r) (count-equal p q n (λ k lt. h k (omega arith)))
+
+pub some-first : (p : ℕ → Bool) (n : ℕ) → some-below p n ≡ isSome (first-below p n)
+some-first p n =
+    ⊎-elim
+    (λ none. ⊎-elim (λ yes′. let got = some-decides p n .0 yes′ in absurd (both-ways _ (first-none p n none (got .0) (got .1)) (got .2))) (λ no′. no′ ∙ sym (ap isSome none)) (cases-bool (some-below p n)))
+    (λ some. let is = first-is p n (some .0) (some .1) in some-decides p n .1 (some .0, is .below, is .passes) ∙ sym (ap isSome (some .1)))
+    (option-cases (first-below p n))
+
+pub same-first : (p : ℕ → Bool) (n n′ r j : ℕ) → first-below p n ≡ Some r → first-below p n′ ≡ Some j → r ≡ j
+same-first p n n′ r j e f =
+    let a = first-is p n r e in
+    let c = first-is p n′ j f in
+    ⊎-elim
+    (λ lt. absurd (both-ways _ (c .lowest r lt) (a .passes)))
+    (λ ge. ⊎-elim (λ lt. absurd (both-ways _ (a .lowest j lt) (c .passes))) (λ le. omega arith) (cases-lt j r))
+    (cases-lt r j)

@@ -1,7 +1,7 @@
 -- Ranks, choices and loss witnesses. A rank bounds how many moves the kiosk needs to a done state, whatever the public does.
 use mathlib.Core.Path.{_≡_}
 use mathlib.Core.Bool.{Bool, true, false, not, _&&_, _||_, cond}
-use Prim.Native.Nat.{ℕ, zero, suc, _≤_, _<_}
+use Prim.Native.Nat.{ℕ, zero, suc, _+_, _^_, _≤_, _<_}
 use lib.Dec.{eqb}
 use Rattle.std.specs.Options.{isSome}
 use Rattle.std.specs.declared.option.Option.{Option}
@@ -12,6 +12,11 @@ use Rattle.game.specs.Search.{some-below, all-below, first-below}
 -- which labels are barred to the kiosk
 abbrev pub Bars : Type 0
 Bars = ℕ → Bool
+
+-- the barred labels below n as the bits of a number
+abbrev pub bits : Bars → ℕ → ℕ
+bits b zero = 0
+bits b (suc n) = cond (b n) (2 ^ n) 0 + bits b n
 
 -- there is a next state, and it passes
 abbrev pub leads-to : Option ℕ → (ℕ → Bool) → Bool

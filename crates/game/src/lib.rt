@@ -1,6 +1,6 @@
 // The interface of games, and the theory of their ranks and strategies.
 ghost use mathlib.Core.Path.{_≡_};
-ghost use Rattle.game.specs.Meaning.{Meaning, Lawful};
+ghost use Rattle.game.specs.Meaning.{Meaning, Lawful, done};
 
 // A game between the kiosk and the public. Every question is answered from one value, the game's meaning, which keeps
 // the laws of every game: at most 64 labels, no move at or above the ceiling, next states below the size, and a number
@@ -37,4 +37,11 @@ pub trait Game {
     // The state behind a label.
     fn next(&self, state: usize, label: u8) -> Option<usize>
         ensures { λ r. ⌜ r ≡ meaning (now (self .entry)) .next state label ⌝ };
+}
+
+// Whether a run that stands at the state is over: a goal that is at the kiosk's turn or an end.
+pub fn is_done<G: Game>(game: &G, state: usize) -> bool
+    ensures { λ r. ⌜ r ≡ done (meaning (now (game .entry))) state ⌝ }
+{
+    game.is_goal(state) && (!game.is_public(state) || game.is_end(state))
 }

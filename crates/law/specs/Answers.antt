@@ -1,6 +1,6 @@
 -- What each call answers, from the game, from what a plan says of its states, and from where the watch stands.
 use mathlib.Core.Bool.{Bool, true, false, not, _&&_, _||_, cond}
-use Prim.Native.Nat.{ℕ, zero, suc, _+_, _^_}
+use Prim.Native.Nat.{ℕ}
 use lib.Dec.{ltb, eqb}
 use Rattle.std.specs.Options.{isSome, valueOr, mapped}
 use Rattle.std.specs.declared.option.Option.{Option}
@@ -116,11 +116,6 @@ lift-answer m b x = refuse-if (not (ltb x (m .ceiling))) NoLabel (Ok (count-belo
 abbrev pub over-at : Meaning → Option ℕ → Bool
 over-at m None = false
 over-at m (Some p) = done m p
-
--- the barred labels as the bits of a number
-abbrev pub bits : Bars → ℕ → ℕ
-bits b zero = 0
-bits b (suc n) = cond (b n) (2 ^ n) 0 + bits b n
 
 abbrev pub look-answer : Meaning → Option ℕ → ℕ → Bool → ℕ → View
 look-answer m run bars planned refused = record {

@@ -8,7 +8,7 @@ use Rattle.std.specs.declared.option.Option.the-variants.{None, Some}
 use Rattle.std.specs.declared.result.Result.{Result}
 use Rattle.std.specs.declared.result.Result.the-variants.{Ok, Err}
 use Rattle.game.specs.Meaning.{Meaning, Lawful, done}
-use Rattle.game.specs.Ranks.{Bars, rank}
+use Rattle.game.specs.Ranks.{Bars, bits, rank}
 use Rattle.game.specs.Strategies.{Move, at, Strategy, Follows, Stops, WinsWithin, Wins}
 use Rattle.law.specs.declared.Call.{Call}
 use Rattle.law.specs.declared.Call.the-variants.{Plan, Open, Reply, Report, Rate, Bar, Lift, Look, Leave}
@@ -18,7 +18,7 @@ use Rattle.law.specs.declared.Fault.{Fault}
 use Rattle.law.specs.declared.Verdict.the-variants.{Held, Lost}
 use Rattle.law.specs.declared.Rating.the-variants.{LostPublic}
 use Rattle.law.specs.Checks.{first-fault, Sound}
-use Rattle.law.specs.Answers.{ranking, plan-verdict, plan-answer, open-answer, reply-answer, report-answer, rate-answer, bar-answer, lift-answer, look-answer, leave-answer, bits}
+use Rattle.law.specs.Answers.{ranking, plan-verdict, plan-answer, open-answer, reply-answer, report-answer, rate-answer, bar-answer, lift-answer, look-answer, leave-answer}
 use Rattle.law.specs.Log.{Log, accepted, barred, changes, stands, position, accepted-moves, refusals, breaks-off}
 
 -- a result as the answer that a list of calls shows

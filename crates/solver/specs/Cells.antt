@@ -1,10 +1,9 @@
 -- What the cells of a table say of a game's states.
 use mathlib.Core.Path.{_≡_}
+use mathlib.Core.Bool.{Bool, true, false}
 use mathlib.Core.List.{List}
-use Prim.Native.Nat.{ℕ, _/_, _%_, _^_}
-use mathlib.Core.Bool.{Bool}
-use lib.Dec.{eqb}
-use lib.ListN.{getD}
+use Prim.Native.Nat.{ℕ, _≤_}
+use lib.ListN.{length, getD}
 use Rattle.std.specs.declared.option.Option.{Option}
 use Rattle.std.specs.declared.option.Option.the-variants.{None, Some}
 use Rattle.game.specs.Meaning.{Meaning}
@@ -23,10 +22,11 @@ cell-at cells s = getD cells s empty
 abbrev pub ranking-in : List Cell → Ranking
 ranking-in cells = record { rank = λ s. cell-at cells s .rank; choice = λ s. cell-at cells s .choice }
 
--- label l is in the set whose bits are `bars`
-abbrev pub has-bit : ℕ → ℕ → Bool
-has-bit bars l = eqb ((bars / 2 ^ l) % 2) 1
-
 -- every cell holds the rank and the choice of its state under the bars b
 abbrev pub Solved : Meaning → Bars → List Cell → Type 0
 Solved m b cells = (s : ℕ) → cell-at cells s ≡ record { rank = rank m b s; choice = choice m b s }
+
+-- what solving leaves: the cells solved, or, where the game is too large for them or has over 4,096 states, as they were
+pub record Solving (m : Meaning) (b : Bars) (before : List Cell) (fits : Bool) (after : List Cell) : Type 0 where
+  pub solved : m .size ≤ length before → m .size ≤ 4096 → (fits ≡ true) × Solved m b after
+  pub too-large : fits ≡ false → after ≡ before
