@@ -8,7 +8,7 @@ use lib.Dec.{ltb, eqb}
 use lib.Bits.{shifted-even, bitAnd, bitOr, bitXor, or-step, xor-step, or-shr, xor-shr, differ}
 use lib.Count.{ones, ones-step, ones-cat}
 use native.Mathlib.Nat.{one-mul, zero-mul}
-use Rattle.game.specs.Ranks.{bits}
+use Rattle.game.specs.Ranks.{bits, with-label, without-label}
 use native.Mathlib.Numerals.{add-one, one-add}
 use lib.Pow.{mod-mod-pow, pow-mono}
 use Rattle.std.proofs.shelf.Bits.{shl-shr, field-of, ones-le, shr-split, pow-pos, pow-add, one-shl, mod-below, pow-below, div-below, shr-shr}
@@ -115,3 +115,14 @@ high-bit set l fits high =
     let grows : 2 ^ 64 ≤ 2 ^ l = pow-mono high in
     let gone : set / 2 ^ l ≡ 0 = omega (arith, div-below set (2 ^ l) 1 (pow-pos l) (rw one-mul (omega arith))) in
     ap (λ n. eqb (n % 2) 1) gone
+
+-- a number whose bits are those of b is b's number
+pub whole-set : (n : ℕ) (b : ℕ → Bool) → n < 2 ^ 64 → ((l : ℕ) → l < 64 → has-bit n l ≡ b l) → n ≡ bits b 64
+whole-set n b fits each = sym (bits-back 64 n fits) ∙ bits-same (has-bit n) b 64 each
+
+-- a label at or above 64 changes nothing
+pub high-with-label : (set x : ℕ) → 64 ≤ x → (l : ℕ) → l < 64 → has-bit set l ≡ with-label (has-bit set) x l
+high-with-label set x high l low = ap (λ t. t || has-bit set l) (sym (ne-eqb x l (λ e. omega arith)))
+
+pub high-without-label : (set x : ℕ) → 64 ≤ x → (l : ℕ) → l < 64 → has-bit set l ≡ without-label (has-bit set) x l
+high-without-label set x high l low = ap (λ t. not t && has-bit set l) (sym (ne-eqb x l (λ e. omega arith)))

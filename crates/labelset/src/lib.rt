@@ -1,10 +1,9 @@
 // A set of labels below 64 as the bits of one number.
 ghost use mathlib.Core.Path.{_≡_};
-ghost use mathlib.Core.Bool.{not, _&&_, _||_};
-ghost use Prim.Native.Nat.{ℕ, _<_, _≤_};
-ghost use lib.Dec.{eqb};
+ghost use Prim.Native.Nat.{ℕ, _<_};
 ghost use Rattle.game.specs.Search.{count-below};
-ghost use Rattle.labelset.specs.Bits.{has-bit, Inserted, Removed};
+ghost use Rattle.game.specs.Ranks.{bits, with-label, without-label};
+ghost use Rattle.labelset.specs.Bits.{has-bit};
 
 // Whether the label is in the set.
 pub fn contains(set: u64, label: u8) -> bool
@@ -13,23 +12,35 @@ pub fn contains(set: u64, label: u8) -> bool
     label < 64 && (set >> label) & 1 == 1
 }
 
+fn put_bit(set: u64, label: u8) -> u64
+    requires { ⌜ label < 64 ⌝ }
+    ensures { λ r. ⌜ ((l : ℕ) → has-bit r l ≡ with-label (has-bit set) label l) ⌝ }
+{
+    (1 << label) | set
+}
+
+fn clear_bit(set: u64, label: u8) -> u64
+    requires { ⌜ label < 64 ⌝ }
+    ensures { λ r. ⌜ ((l : ℕ) → has-bit r l ≡ without-label (has-bit set) label l) ⌝ }
+{
+    let mask = 1 << label;
+    mask ^ (mask | set)
+}
+
 // The set with the label; one at or above 64 cannot be put in.
 pub fn insert(set: u64, label: u8) -> u64
-    ensures { λ r. ⌜ Inserted set label r ⌝ }
+    ensures value { λ r. ⌜ r ≡ bits (with-label (has-bit set) label) 64 ⌝ }
+    ensures labels { λ r. ⌜ (label < 64 → (l : ℕ) → has-bit r l ≡ with-label (has-bit set) label l) ⌝ }
 {
-    if label < 64 { (1 << label) | set } else { set }
+    if label < 64 { put_bit(set, label) } else { set }
 }
 
 // The set without the label.
 pub fn remove(set: u64, label: u8) -> u64
-    ensures { λ r. ⌜ Removed set label r ⌝ }
+    ensures value { λ r. ⌜ r ≡ bits (without-label (has-bit set) label) 64 ⌝ }
+    ensures labels { λ r. ⌜ (label < 64 → (l : ℕ) → has-bit r l ≡ without-label (has-bit set) label l) ⌝ }
 {
-    if label < 64 {
-        let mask = 1 << label;
-        mask ^ (mask | set)
-    } else {
-        set
-    }
+    if label < 64 { clear_bit(set, label) } else { set }
 }
 
 // How many labels are in the set.

@@ -1,7 +1,7 @@
 -- What each call answers, from the game, from what a plan says of its states, and from where the watch stands.
 use mathlib.Core.Bool.{Bool, true, false, not, _&&_, _||_, cond}
 use Prim.Native.Nat.{ℕ}
-use lib.Dec.{ltb, eqb}
+use lib.Dec.{ltb}
 use Rattle.std.specs.Options.{isSome, valueOr, mapped}
 use Rattle.std.specs.declared.option.Option.{Option}
 use Rattle.std.specs.declared.option.Option.the-variants.{None, Some}
@@ -9,7 +9,7 @@ use Rattle.std.specs.declared.result.Result.{Result}
 use Rattle.std.specs.declared.result.Result.the-variants.{Ok, Err}
 use Rattle.game.specs.Meaning.{Meaning, done, feasible}
 use Rattle.game.specs.Search.{first-below, count-below, greatest}
-use Rattle.game.specs.Ranks.{Bars, rank, choice, witness-by}
+use Rattle.game.specs.Ranks.{Bars, with-label, without-label, rank, choice, witness-by}
 use Rattle.law.specs.declared.Fault.{Fault}
 use Rattle.law.specs.declared.Fault.the-variants.{NotStart, NoState, NoLabel, NotFeasible, NoRun, RunOpen, RunOver, OtherTurn, NoPlan, NoRank}
 use Rattle.law.specs.declared.Verdict.{Verdict}
@@ -100,17 +100,11 @@ abbrev pub rate-answer : Meaning → Ranking → Bool → ℕ → Result Rating 
 rate-answer m ρ planned s = refuse-if (not (ltb s (m .size))) NoState (refuse-if (not planned) NoPlan (Ok (rating m ρ s)))
 
 -- bar and lift: how many labels are then barred
-abbrev pub with-bar : Bars → ℕ → Bars
-with-bar b x l = eqb x l || b l
-
-abbrev pub without-bar : Bars → ℕ → Bars
-without-bar b x l = not (eqb x l) && b l
-
 abbrev pub bar-answer : Meaning → Bars → ℕ → Result ℕ Fault
-bar-answer m b x = refuse-if (not (ltb x (m .ceiling))) NoLabel (Ok (count-below (with-bar b x) 64))
+bar-answer m b x = refuse-if (not (ltb x (m .ceiling))) NoLabel (Ok (count-below (with-label b x) 64))
 
 abbrev pub lift-answer : Meaning → Bars → ℕ → Result ℕ Fault
-lift-answer m b x = refuse-if (not (ltb x (m .ceiling))) NoLabel (Ok (count-below (without-bar b x) 64))
+lift-answer m b x = refuse-if (not (ltb x (m .ceiling))) NoLabel (Ok (count-below (without-label b x) 64))
 
 -- look: a run is over where its position is done
 abbrev pub over-at : Meaning → Option ℕ → Bool

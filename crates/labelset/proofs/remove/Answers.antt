@@ -1,14 +1,17 @@
-use mathlib.Core.Path.{_≡_, ap, _∙_}
-use mathlib.Core.Bool.{_&&_, not}
 use native.Mathlib.Omega.{arith}
-use lib.Bits.{bitOr, bitXor}
-use Rattle.std.proofs.shelf.Bits.{one-shl}
+use Rattle.game.specs.Ranks.{without-label}
 use Rattle.labelset.specs.Bits.{has-bit}
-use Rattle.labelset.proofs.Bits.{bit-out, bit-one}
+use Rattle.labelset.proofs.Bits.{whole-set, high-without-label}
 use Rattle.labelset.proofs.remove.Needs as need
 
 pub returns-then-label-lt64 : need.returns-then-label-lt64
 returns-then-label-lt64 c = record {
-  labels = λ low x. ap (λ n. has-bit (bitXor n (bitOr n (c .args .set))) x) (one-shl (c .args .label) 64 low) ∙ bit-out _ (c .args .set) x ∙ ap (λ t. not t && has-bit (c .args .set) x) (bit-one (c .args .label) x);
-  high = λ h. absurd (omega (arith, c .if-label-lt64 .taken));
+  value = whole-set (c .clear-bit .result) (without-label (has-bit (c .args .set)) (c .args .label)) (c .clear-bit .ok) (λ l _. c .clear-bit .ensures l);
+  labels = λ _. c .clear-bit .ensures;
+}
+
+pub returns-else-label-lt64 : need.returns-else-label-lt64
+returns-else-label-lt64 c = record {
+  value = whole-set (c .args .set) (without-label (has-bit (c .args .set)) (c .args .label)) (c .fits .set .fits) (high-without-label (c .args .set) (c .args .label) (c .if-label-lt64 .left));
+  labels = λ low. absurd (omega (arith, c .if-label-lt64 .left));
 }
