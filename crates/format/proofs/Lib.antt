@@ -1,0 +1,9 @@
+pub mod Fields
+pub mod Records
+pub mod Whole
+pub mod Groups
+pub mod Tables
+pub mod Laws
+pub mod Chains
+pub mod Judgement
+pub mod Examples

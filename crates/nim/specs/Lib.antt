@@ -1,0 +1,3 @@
+pub mod Nims
+pub mod NimLaws
+pub mod Positions
