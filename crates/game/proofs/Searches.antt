@@ -12,7 +12,7 @@ use Rattle.std.proofs.shelf.Tests.{eqb-true, eq-eqb, and-from, or-left, cases-b
 use Rattle.std.specs.declared.option.Option.{Option}
 use Rattle.std.specs.declared.option.Option.the-variants.{None, Some}
 use Rattle.game.specs.Ranks.{is, leads-to}
-use Rattle.game.specs.Search.{some-below, all-below, first-below, first-of, count-below, greatest, or-else}
+use Rattle.game.specs.Search.{some-below, all-below, first-below, first-of, count-below, highest, or-else}
 
 pub some-decides : (p : ℕ → Bool) (n : ℕ) → Decides (some-below p n) ((k : ℕ) × (k < n) × (p k ≡ true))
 some-decides p n = decides-below-or p (λ k. p k ≡ true) (some-below p) (λ k. (λ e. e, λ e. e)) refl (λ _. refl) n
@@ -149,18 +149,18 @@ first-of-all f (suc n) h = ap (λ o. or-else o (f n)) (first-of-all f n (λ k lt
 pub first-all : (p : ℕ → Bool) (n : ℕ) → ((k : ℕ) → k < n → p k ≡ false) → first-below p n ≡ None
 first-all p n h = ⊎-elim (λ e. e) (λ some. let is′ = first-is p n (some .0) (some .1) in absurd (both-ways _ (h (some .0) (is′ .below)) (is′ .passes))) (option-cases (first-below p n))
 
-pub greatest-ge : (f : ℕ → Option ℕ) (n k r : ℕ) → k < n → f k ≡ Some r → r ≤ greatest f n
-greatest-ge f zero k r h e = absurd (omega arith)
-greatest-ge f (suc n) k r h e =
+pub highest-ge : (f : ℕ → Option ℕ) (n k r : ℕ) → k < n → f k ≡ Some r → r ≤ highest f n
+highest-ge f zero k r h e = absurd (omega arith)
+highest-ge f (suc n) k r h e =
     ⊎-elim
-    (λ lt. omega (arith, greatest-ge f n k r lt e))
+    (λ lt. omega (arith, highest-ge f n k r lt e))
     (λ ge. let same : n ≡ k = omega arith in let top : valueOr (f n) 0 ≡ r = ap (λ i. valueOr (f i) 0) same ∙ ap (λ o. valueOr o 0) e in omega arith)
     (cases-lt k n)
 
-pub greatest-le : (f : ℕ → Option ℕ) (n top : ℕ) → ((k r : ℕ) → k < n → f k ≡ Some r → r ≤ top) → greatest f n ≤ top
-greatest-le f zero top h = omega arith
-greatest-le f (suc n) top h =
-    let rest = greatest-le f n top (λ k r lt e. h k r (omega arith) e) in
+pub highest-le : (f : ℕ → Option ℕ) (n top : ℕ) → ((k r : ℕ) → k < n → f k ≡ Some r → r ≤ top) → highest f n ≤ top
+highest-le f zero top h = omega arith
+highest-le f (suc n) top h =
+    let rest = highest-le f n top (λ k r lt e. h k r (omega arith) e) in
     let here : valueOr (f n) 0 ≤ top = go (f n) refl in
     omega arith
   where

@@ -87,7 +87,7 @@ pub record Rules (m : Meaning) (b : Bars) (ρ : ℕ → Option ℕ) : Type 0 whe
   -- a kiosk state has one more than the least behind an unbarred feasible label, if some such label leads to a rank
   pub kiosk-some : (s r : ℕ) → done m s ≡ false → m .end s ≡ false → m .public s ≡ false → ρ s ≡ Some r → (q : ℕ) × (r ≡ suc q) × ((l : ℕ) × (t : ℕ) × (b l ≡ false) × (Step m s l t) × (ρ t ≡ Some q)) × ((l t p : ℕ) → b l ≡ false → Step m s l t → ρ t ≡ Some p → q ≤ p)
   pub kiosk-has : (s l t q : ℕ) → done m s ≡ false → m .public s ≡ false → b l ≡ false → Step m s l t → ρ t ≡ Some q → isSome (ρ s) ≡ true
-  -- a public state has one more than the greatest behind its feasible labels, if it has some and all lead to ranks
+  -- a public state has one more than the highest behind its feasible labels, if it has some and all lead to ranks
   pub public-some : (s r : ℕ) → done m s ≡ false → m .end s ≡ false → m .public s ≡ true → ρ s ≡ Some r → (q : ℕ) × (r ≡ suc q) × ((l : ℕ) × (t : ℕ) × (Step m s l t) × (ρ t ≡ Some q)) × ((l t : ℕ) → Step m s l t → (p : ℕ) × (ρ t ≡ Some p) × (p ≤ q))
   pub public-has : (s l t : ℕ) → done m s ≡ false → m .public s ≡ true → Step m s l t → ((l′ t′ : ℕ) → Step m s l′ t′ → isSome (ρ t′) ≡ true) → isSome (ρ s) ≡ true
 

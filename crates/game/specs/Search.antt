@@ -35,7 +35,7 @@ abbrev pub count-below : (ℕ → Bool) → ℕ → ℕ
 count-below p zero = 0
 count-below p (suc n) = cond (p n) 1 0 + count-below p n
 
--- the greatest value of a number below n, and 0 if there is none
-abbrev pub greatest : (ℕ → Option ℕ) → ℕ → ℕ
-greatest f zero = 0
-greatest f (suc n) = max (valueOr (f n) 0) (greatest f n)
+-- the highest value of a number below n, and 0 if there is none
+abbrev pub highest : (ℕ → Option ℕ) → ℕ → ℕ
+highest f zero = 0
+highest f (suc n) = max (valueOr (f n) 0) (highest f n)

@@ -11,7 +11,7 @@ use Rattle.std.specs.declared.option.Option.{Option}
 use Rattle.std.specs.declared.option.Option.the-variants.{None, Some}
 use Rattle.law.specs.declared.Fault.{Fault}
 use Rattle.game.specs.Meaning.{Meaning, Lawful, Nowhere, feasible, Step}
-use Rattle.game.specs.Search.{some-below, first-below, first-of, or-else, greatest}
+use Rattle.game.specs.Search.{some-below, first-below, first-of, or-else, highest}
 use Rattle.law.specs.Checks.{keeps, keeps-turn, label-fault, state-fault, first-fault, Sound}
 use Rattle.game.proofs.Searches.{some-decides, none-some, first-none, first-all, first-of-none, first-of-all}
 use Rattle.game.proofs.Meanings.{start-inside, step-inside, label-low, step-feasible, feasible-step}

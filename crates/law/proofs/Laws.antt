@@ -14,7 +14,7 @@ use Rattle.std.specs.declared.option.Option.the-variants.{None, Some}
 use Rattle.std.specs.declared.result.Result.{Result}
 use Rattle.std.specs.declared.result.Result.the-variants.{Ok, Err}
 use Rattle.game.specs.Meaning.{Meaning, Lawful, done, feasible, Step}
-use Rattle.game.specs.Search.{first-below, greatest}
+use Rattle.game.specs.Search.{first-below, highest}
 use Rattle.game.specs.Ranks.{Bars, rank, choice, witness, witness-by}
 use Rattle.game.specs.Strategies.{Move, at, Strategy, Follows, Stops, WinsWithin, Wins}
 use Rattle.game.specs.Final.{Unblocked, TakesWitness}
@@ -32,7 +32,7 @@ use Rattle.law.specs.Answers.{ranking, refuse-if, or-fault, verdict, lost-star
 use Rattle.law.specs.Log.{Entry, Log, accepted, says, barred, changes, is-plan, stands, position, is-move, accepted-moves, breaks-off, behind, answered-label, moved}
 use Rattle.law.specs.Law.{answered, replied, answer, Kept, Would, WinsAll, WinsAllWithin, PlanIsFinal, Undisturbed, RunEnds, TakesRated, LossWitnessed, Relies, Law, OverOrOn}
 use Rattle.game.proofs.Meanings.{start-inside, public-inside, step-feasible, feasible-step}
-use Rattle.game.proofs.Searches.{none-some, same-some, option-cases, first-none, first-all, greatest-ge, greatest-le}
+use Rattle.game.proofs.Searches.{none-some, same-some, option-cases, first-none, first-all, highest-ge, highest-le}
 use Rattle.game.proofs.Rules.{zero-done, goes-on}
 use Rattle.game.proofs.Winning.{no-strategy-better, choices, choices-win, done-goal, choice-has, choice-is, choice-down, public-down, witness-has, witness-wins}
 use Rattle.law.proofs.Checked.{no-fault-sound, sound-no-fault}
@@ -81,13 +81,13 @@ module _ (m : Meaning) (ok : Lawful m) (b : Bars) where
 
   pub held-facts : (n : ℕ) → planned None ≡ Planned (Held n) → HeldFacts n
   held-facts n e =
-      let both = verdict-held (first-below (lost-start m (rank m b)) (m .size)) (greatest (start-rank m (rank m b)) (m .size)) n e in
+      let both = verdict-held (first-below (lost-start m (rank m b)) (m .size)) (highest (start-rank m (rank m b)) (m .size)) n e in
       record {
         ranked-starts = λ s st. ⊎-elim
             (λ un. absurd (both-ways _ (first-none (lost-start m (rank m b)) (m .size) (both .0) s (start-inside m ok s st)) (and-from _ _ st (not-from-false _ (ap isSome un)))))
-            (λ has. (has .0, has .1, omega (arith, greatest-ge (start-rank m (rank m b)) (m .size) s (has .0) (start-inside m ok s st) (start-rank-is s (has .0) st (has .1)), both .1)))
+            (λ has. (has .0, has .1, omega (arith, highest-ge (start-rank m (rank m b)) (m .size) s (has .0) (start-inside m ok s st) (start-rank-is s (has .0) st (has .1)), both .1)))
             (option-cases (rank m b s));
-        reached = λ k h. omega (arith, greatest-le (start-rank m (rank m b)) (m .size) k (λ s r lt e. let f = is-start-rank s r e in h s r (f .0) (f .1)), both .1);
+        reached = λ k h. omega (arith, highest-le (start-rank m (rank m b)) (m .size) k (λ s r lt e. let f = is-start-rank s r e in h s r (f .0) (f .1)), both .1);
       }
 
   pub all-ranked-held : ((s : ℕ) → m .start s ≡ true → isSome (rank m b s) ≡ true) → (n : ℕ) × (planned None ≡ Planned (Held n))
@@ -96,7 +96,7 @@ module _ (m : Meaning) (ok : Lawful m) (b : Bars) where
             (λ yes′. let both = and-parts _ _ yes′ in absurd (both-ways _ (not-true _ (both .1)) (h s (both .0))))
             (λ no′. no′)
             (cases-bool ((lost-start m (rank m b)) s))) in
-      (greatest (start-rank m (rank m b)) (m .size), ap (λ o. Planned (verdict o (greatest (start-rank m (rank m b)) (m .size)))) none)
+      (highest (start-rank m (rank m b)) (m .size), ap (λ o. Planned (verdict o (highest (start-rank m (rank m b)) (m .size)))) none)
 
 module _ (m : Meaning) (ok : Lawful m) (L : Log) where
   would-sound : Would m L Plan → first-fault m ≡ None

@@ -8,7 +8,7 @@ use Rattle.std.specs.declared.option.Option.the-variants.{None, Some}
 use Rattle.std.specs.declared.result.Result.{Result}
 use Rattle.std.specs.declared.result.Result.the-variants.{Ok, Err}
 use Rattle.game.specs.Meaning.{Meaning, done, feasible}
-use Rattle.game.specs.Search.{first-below, count-below, greatest}
+use Rattle.game.specs.Search.{first-below, count-below, highest}
 use Rattle.game.specs.Ranks.{Bars, with-label, without-label, rank, choice, witness-by}
 use Rattle.law.specs.declared.Fault.{Fault}
 use Rattle.law.specs.declared.Fault.the-variants.{NotStart, NoState, NoLabel, NotFeasible, NoRun, RunOpen, RunOver, OtherTurn, NoPlan, NoRank}
@@ -35,7 +35,7 @@ abbrev pub or-fault : {A : Type 0} → Fault → Option A → Result A Fault
 or-fault f (Some a) = Ok a
 or-fault f None = Err f
 
--- plan: a fault of the game, or held with the greatest rank of a start, or lost with the lowest start that has none
+-- plan: a fault of the game, or held with the highest rank of a start, or lost with the lowest start that has none
 abbrev pub verdict : Option ℕ → ℕ → Verdict
 verdict None n = Held n
 verdict (Some s) n = Lost s
@@ -47,7 +47,7 @@ abbrev pub start-rank : Meaning → (ℕ → Option ℕ) → ℕ → Option ℕ
 start-rank m ρ s = cond (m .start s) (ρ s) None
 
 abbrev pub plan-verdict : Meaning → (ℕ → Option ℕ) → Verdict
-plan-verdict m ρ = verdict (first-below (lost-start m ρ) (m .size)) (greatest (start-rank m ρ) (m .size))
+plan-verdict m ρ = verdict (first-below (lost-start m ρ) (m .size)) (highest (start-rank m ρ) (m .size))
 
 abbrev pub plan-answer : Option Fault → Verdict → Result Verdict Fault
 plan-answer (Some f) v = Err f

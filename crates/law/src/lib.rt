@@ -78,7 +78,7 @@ impl Fault {
     }
 }
 
-// What plan says: held, with the greatest rank of a start, or lost, with the lowest start that has no rank.
+// What plan says: held, with the highest rank of a start, or lost, with the lowest start that has no rank.
 #[derive(Clone, Copy, Drop, PartialEq, Eq, Debug)]
 pub enum Verdict {
     Held(u32),

@@ -20,7 +20,7 @@ arc m b e = cond (usable m b (e / 64) (e % 64)) (m .next (e / 64) (e % 64)) None
 abbrev pub into : Meaning → Bars → ℕ → ℕ → Bool
 into m b t e = is (arc m b e) t
 
--- one more than the greatest number below n that passes, and 0 if none does
+-- one more than the highest number below n that passes, and 0 if none does
 abbrev pub latest : (ℕ → Bool) → ℕ → ℕ
 latest p zero = 0
 latest p (suc n) = cond (p n) (suc n) (latest p n)

@@ -2,7 +2,7 @@
 ghost use mathlib.Core.Path.{_≡_};
 ghost use Prim.Native.Nat.{max};
 ghost use Rattle.std.specs.Options.{valueOr};
-ghost use Rattle.game.specs.Search.{first-below, greatest};
+ghost use Rattle.game.specs.Search.{first-below, highest};
 ghost use Rattle.law.specs.Answers.{lost-start, start-rank, plan-verdict};
 ghost use Rattle.solver.specs.Cells.{ranking-in};
 use crate::Cell;
@@ -43,9 +43,9 @@ fn larger(a: u32, b: u32) -> u32
     if a < b { b } else { a }
 }
 
-// The greatest rank of a start.
-fn greatest_rank<G: Game>(game: &G, cells: &[Cell]) -> u32
-    ensures { λ r. ⌜ r ≡ greatest (start-rank (meaning (now (game .entry))) (ranking-in (now (cells .entry)) .rank)) (meaning (now (game .entry)) .size) ⌝ }
+// The highest rank of a start.
+fn highest_rank<G: Game>(game: &G, cells: &[Cell]) -> u32
+    ensures { λ r. ⌜ r ≡ highest (start-rank (meaning (now (game .entry))) (ranking-in (now (cells .entry)) .rank)) (meaning (now (game .entry)) .size) ⌝ }
 {
     let mut top = 0;
     for s in 0..game.size() {
@@ -55,12 +55,12 @@ fn greatest_rank<G: Game>(game: &G, cells: &[Cell]) -> u32
     top
 }
 
-// Held with the greatest rank of a start, or lost with the lowest start that has none, by what the cells hold.
+// Held with the highest rank of a start, or lost with the lowest start that has none, by what the cells hold.
 pub fn verdict<G: Game>(game: &G, cells: &[Cell]) -> Verdict
     ensures { λ r. ⌜ r ≡ plan-verdict (meaning (now (game .entry))) (ranking-in (now (cells .entry)) .rank) ⌝ }
 {
     match first_lost(game, cells) {
         Some(s) => Verdict::Lost(s),
-        None => Verdict::Held(greatest_rank(game, cells)),
+        None => Verdict::Held(highest_rank(game, cells)),
     }
 }

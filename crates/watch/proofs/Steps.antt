@@ -42,7 +42,7 @@ use Rattle.solver.specs.Cells.{cell-at, ranking-in, Solved}
 use Rattle.watch.specs.declared.Memory.{Memory}
 use Rattle.watch.specs.declared.Table.{Table}
 use Rattle.watch.specs.Memory.{bars-of, ranking-of, counted, moved-to, with-bars, with-plan, after, AfterPlan, replied-to, barred-too, lifted}
-use Rattle.watch.specs.Lived.{Shows, Lived, entry, Extends, logged}
+use Rattle.watch.specs.Lived.{Shows, Lived, entry, Extends, logged, log-of}
 
 -- solved cells say the ranks and choices
 solved-ranking : (m : Meaning) (b : Bars) (cells : List Cell) → Solved m b cells → ranking-in cells ≡ ranking m b
@@ -264,3 +264,21 @@ module _ (m : Meaning) (ok : Lawful m) where
 -- the same call, with the result and the memory as the code has them
 pub carried : {A : Type 0} (m : Meaning) (d e e′ : Memory) (c : Call) (f : A → Answer) (r r′ : Result A Fault) → r ≡ r′ → e ≡ e′ → Extends m d c (answered f r′) e′ → Extends m d c (answered f r) e
 carried m d e e′ c f r r′ is left h = subst (λ x. Extends m d c (answered f x) e) (sym is) (subst (λ x. Extends m d c (answered f r′) x) (sym left) h)
+
+-- one more call at the end
+logged-more : (qs : List Call) (rs : List Answer) (q : Call) (r : Answer) (L : Log) → length qs ≡ length rs → logged (qs ++ (q ∷ [])) (rs ++ (r ∷ [])) L ≡ entry q r ∷ logged qs rs L
+logged-more [] [] q r L h = refl
+logged-more [] (x ∷ rs) q r L h = absurd (omega arith)
+logged-more (x ∷ qs) [] q r L h = absurd (omega arith)
+logged-more (x ∷ qs) (y ∷ rs) q r L h = logged-more qs rs q r (entry x y ∷ L) (omega arith)
+
+-- one turn of a loop that carries out the calls in order
+pub turn : (m : Meaning) (d₀ d e : Memory) (qs : List Call) (rs : List Answer) (i : ℕ) (q₀ : Call) (r : Answer) → i < length qs → i < length rs → ((L : Log) → Lived m L d₀ → Lived m (log-of i qs rs L) d) → Extends m d (getD qs i q₀) r e → (L : Log) → Lived m L d₀ → Lived m (log-of (i + 1) qs (set rs i r) L) e
+turn m d₀ d e qs rs i q₀ r h k before now′ L old =
+    let q : Call = getD qs i q₀ in
+    let asked : take (i + 1) qs ≡ take i qs ++ (q ∷ []) = take-more qs i q₀ h in
+    let told : take (i + 1) (set rs i r) ≡ take i rs ++ (r ∷ []) = take-more-set rs i r k in
+    let same : length (take i qs) ≡ length (take i rs) = length-take-le i qs (omega arith) ∙ sym (length-take-le i rs (omega arith)) in
+    let log : log-of (i + 1) qs (set rs i r) L ≡ entry q r ∷ log-of i qs rs L =
+          ap (λ x. logged x (take (i + 1) (set rs i r)) L) asked ∙ ap (λ x. logged (take i qs ++ (q ∷ [])) x L) told ∙ logged-more (take i qs) (take i rs) q r L same in
+    subst (λ x. Lived m x e) (sym log) (now′ _ (before L old))

@@ -3,6 +3,7 @@ use mathlib.Core.Path.{_≡_}
 use mathlib.Core.Bool.{Bool, true}
 use mathlib.Core.List.{List, [], _∷_}
 use Prim.Native.Nat.{ℕ, _^_, _<_, min}
+use lib.ListN.{length, take}
 use Rattle.game.specs.Meaning.{Meaning}
 use Rattle.law.specs.declared.Call.{Call}
 use Rattle.law.specs.declared.Answer.{Answer}
@@ -39,3 +40,16 @@ abbrev pub logged : List Call → List Answer → Log → Log
 logged [] rs L = L
 logged (q ∷ qs) [] L = L
 logged (q ∷ qs) (r ∷ rs) L = logged qs rs (entry q r ∷ L)
+
+-- Of a list of calls and their answers on a new watch: every answer is the right one, and the whole law holds there.
+pub record LawHolds (m : Meaning) (L : Log) : Type 0 where
+  pub right : Kept m L
+  pub relies : Relies m L
+
+-- how many calls are carried out: as many as there is room for answers
+abbrev pub carried-out : List Call → List Answer → ℕ
+carried-out qs rs = min (length qs) (length rs)
+
+-- the list after the first n calls with their answers
+abbrev pub log-of : ℕ → List Call → List Answer → Log → Log
+log-of n qs rs L = logged (take n qs) (take n rs) L
