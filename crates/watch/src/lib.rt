@@ -63,6 +63,27 @@ impl<G: Game> Watch<G> {
         Watch { game, memory }
     }
 
+    // The game that the watch is over.
+    pub fn game(&self) -> &G
+        ensures { λ r. ⌜ now r ≡ now (self .entry) .game ⌝ }
+    {
+        &self.game
+    }
+
+    // Whether a plan stands.
+    pub fn is_planned(&self) -> bool
+        ensures { λ r. ⌜ r ≡ now (self .entry) .memory .planned ⌝ }
+    {
+        self.memory.planned
+    }
+
+    // The cells of the last plan. They say nothing where none stands.
+    pub fn cells(&self) -> &[Cell]
+        ensures { λ r. ⌜ now r ≡ now (self .entry) .memory .table .cells ⌝ }
+    {
+        &self.memory.table.cells
+    }
+
     // Counts a refusal, or takes the run to the position.
     fn finish<T: Copy>(&mut self, answer: Result<T, Fault>, position: Option<usize>) -> Result<T, Fault>
         ensures same { λ _. ⌜ now (self .exit) .game ≡ now (self .entry) .game ⌝ }

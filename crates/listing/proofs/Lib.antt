@@ -1,0 +1,6 @@
+pub mod Reached
+pub mod Walking
+pub mod Texts
+pub mod Bound
+pub mod Right
+pub mod Planned
