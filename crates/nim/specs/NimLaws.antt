@@ -1,16 +1,16 @@
 -- The laws of every game hold of Fibonacci Nim.
-use Prim.Native.Nat.{ℕ, _+_, _-_, _*_, _/_, _%_, _<_, _≤_}
-use mathlib.Core.Path.{_≡_, refl, sym, subst, _∙_}
+use Prim.Native.Nat.{ℕ, _+_, _-_, _*_, _/_, _<_, _≤_}
+use mathlib.Core.Path.{_≡_, refl, sym, subst}
 use mathlib.Core.Bool.{Bool, true, false, cond, _&&_}
 use native.Mathlib.Omega.{arith}
 use native.Mathlib.Nat.{mul-comm}
 use lib.Dec.{leb, ltb, lit≤}
-use Rattle.std.proofs.shelf.Tests.{and-parts, and-from, and-left, ltb-true, leb-true, le-leb, lt-ltb, le-ltb, cond-true, cond-false, both-ways}
+use Rattle.std.proofs.shelf.Tests.{and-parts, and-from, and-left, ltb-true, leb-true, le-leb, lt-ltb, le-ltb, cond-true, cond-false}
 use Rattle.std.proofs.shelf.Bits.{div-below, mul-add-lt, mod-below, mul-le}
 use Rattle.std.specs.declared.option.Option.{Option}
 use Rattle.std.specs.declared.option.Option.the-variants.{Some, None}
 use Rattle.game.specs.Meaning.{Lawful}
-use Rattle.nim.specs.Nims.{nim-meaning, nim-size, nim-next, playable, number, is-state, State, may-take, player, remaining, taken}
+use Rattle.nim.specs.Nims.{nim-meaning, nim-size, nim-next, playable, number-of, is-state, State, may-take, player-of, remaining-of, taken-of}
 
 above-zero : (t : Bool) (s x : ℕ) → s < cond t x 0 → (t ≡ true) × (s < x)
 above-zero true s x h = (refl, h)
@@ -28,14 +28,14 @@ size-is n low high = cond-true _ _ _ (and-from (leb 2 n) (leb n 44) (le-leb 2 n 
 pub true-state : (n s : ℕ) → State n s → is-state n s ≡ true
 true-state n s i = lt-ltb s (nim-size n) (subst (λ (x : ℕ). s < x) (sym (size-is n (i .low) (i .high))) (i .below))
 
-pub player-le : (n s : ℕ) → State n s → player n s ≤ 1
+pub player-le : (n s : ℕ) → State n s → player-of n s ≤ 1
 player-le n s i =
     let q : s / n < 2 * (n + 1) = div-below s n (2 * (n + 1)) (omega (arith, i .low)) (i .below) in
     let p : s / n / (n + 1) < 2 = div-below (s / n) (n + 1) 2 (omega arith) q in
     omega arith
 
 -- every player, remainder and taking has a number below the size
-pub number-below : (n j r p : ℕ) → j ≤ 1 → r ≤ n → 1 ≤ p → p ≤ n → number n j r p < 2 * (n + 1) * n
+pub number-below : (n j r p : ℕ) → j ≤ 1 → r ≤ n → 1 ≤ p → p ≤ n → number-of n j r p < 2 * (n + 1) * n
 number-below n j r p who few some most =
     let turn : j * (n + 1) ≤ 1 * (n + 1) = mul-le j (n + 1) 1 (n + 1) who (omega arith) in
     let rows : j * (n + 1) + r < 2 * (n + 1) = omega arith in
@@ -55,20 +55,20 @@ some-if false x t h = let z : _≡_ {A = ℕ} 0 1 = cc in absurd (omega arith)
 
 next-below : (n s a t : ℕ) → nim-next n s a ≡ Some t → t < nim-size n
 next-below n s a t h =
-    let to : ℕ = number n (1 - player n s) (remaining n s - a) a in
-    let p = some-if (is-state n s && may-take n (remaining n s) (taken n s) a) to t h in
+    let to : ℕ = number-of n (1 - player-of n s) (remaining-of n s - a) a in
+    let p = some-if (is-state n s && may-take n (remaining-of n s) (taken-of n s) a) to t h in
     let both = and-parts (is-state n s) _ (p .0) in
     let i = state-true n s (both .0) in
-    let m = may-parts n (remaining n s) (taken n s) a (both .1) in
-    let r : remaining n s < n + 1 = mod-below (s / n) (n + 1) (omega arith) in
-    let below : to < 2 * (n + 1) * n = number-below n (1 - player n s) (remaining n s - a) a (omega arith) (omega arith) (m .0) (omega (arith, m .1)) in
+    let m = may-parts n (remaining-of n s) (taken-of n s) a (both .1) in
+    let r : remaining-of n s < n + 1 = mod-below (s / n) (n + 1) (omega arith) in
+    let below : to < 2 * (n + 1) * n = number-below n (1 - player-of n s) (remaining-of n s - a) a (omega arith) (omega arith) (m .0) (omega (arith, m .1)) in
     subst (λ (x : ℕ). x < nim-size n) (p .1) (subst (λ (x : ℕ). to < x) (sym (size-is n (i .low) (i .high))) below)
 
-high-label : (n s l : ℕ) → 44 ≤ l → (is-state n s && may-take n (remaining n s) (taken n s) l) ≡ true → ⊥
+high-label : (n s l : ℕ) → 44 ≤ l → (is-state n s && may-take n (remaining-of n s) (taken-of n s) l) ≡ true → ⊥
 high-label n s l h e =
     let both = and-parts (is-state n s) _ e in
     let i = state-true n s (both .0) in
-    let m = may-parts n (remaining n s) (taken n s) l (both .1) in
+    let m = may-parts n (remaining-of n s) (taken-of n s) l (both .1) in
     omega (arith, i .high, m .1)
 
 none-unless : (b : Bool) (o : Option ℕ) → (b ≡ true → ⊥) → cond b o None ≡ None

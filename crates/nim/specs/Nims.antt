@@ -1,6 +1,6 @@
 -- Fibonacci Nim with n matches, by the numbers of its states.
 use Prim.Native.Nat.{ℕ, _+_, _-_, _*_, _/_, _%_, _<_, _≤_}
-use mathlib.Core.Bool.{Bool, true, false, cond, _&&_}
+use mathlib.Core.Bool.{Bool, cond, _&&_}
 use lib.Dec.{eqb, ltb, leb}
 use Rattle.std.specs.declared.option.Option.{Option}
 use Rattle.std.specs.declared.option.Option.the-variants.{Some, None}
@@ -25,8 +25,8 @@ pub record State (n s : ℕ) : Type 0 where
   pub below : s < 2 * (n + 1) * n
 
 -- the number of the state of player j, with r matches remaining and p taken last
-abbrev pub number : ℕ → ℕ → ℕ → ℕ → ℕ
-number n j r p = (j * (n + 1) + r) * n + p - 1
+abbrev pub number-of : ℕ → ℕ → ℕ → ℕ → ℕ
+number-of n j r p = (j * (n + 1) + r) * n + p - 1
 
 -- there is such a state
 abbrev pub in-range : ℕ → ℕ → ℕ → ℕ → Bool
@@ -34,19 +34,19 @@ in-range n j r p = playable n && (leb j 1 && (leb r n && (leb 1 p && leb p n)))
 
 -- the number of that state, if there is one
 abbrev pub state-of : ℕ → ℕ → ℕ → ℕ → Option ℕ
-state-of n j r p = cond (in-range n j r p) (Some (number n j r p)) None
+state-of n j r p = cond (in-range n j r p) (Some (number-of n j r p)) None
 
 -- the player at turn in s: 0 for the kiosk, 1 for the public
-abbrev pub player : ℕ → ℕ → ℕ
-player n s = s / n / (n + 1)
+abbrev pub player-of : ℕ → ℕ → ℕ
+player-of n s = s / n / (n + 1)
 
 -- the matches remaining in s
-abbrev pub remaining : ℕ → ℕ → ℕ
-remaining n s = s / n % (n + 1)
+abbrev pub remaining-of : ℕ → ℕ → ℕ
+remaining-of n s = s / n % (n + 1)
 
 -- the matches taken last before s
-abbrev pub taken : ℕ → ℕ → ℕ
-taken n s = s % n + 1
+abbrev pub taken-of : ℕ → ℕ → ℕ
+taken-of n s = s % n + 1
 
 -- a matches may be taken from r after p were: some, fewer than there are at first, and at most twice what was taken last
 abbrev pub may-take : ℕ → ℕ → ℕ → ℕ → Bool
@@ -54,16 +54,16 @@ may-take n r p a = leb 1 a && (ltb a n && (leb a r && leb a (2 * p)))
 
 -- label a takes a matches, and the other player is at turn
 abbrev pub nim-next : ℕ → ℕ → ℕ → Option ℕ
-nim-next n s a = cond (is-state n s && may-take n (remaining n s) (taken n s) a) (Some (number n (1 - player n s) (remaining n s - a) a)) None
+nim-next n s a = cond (is-state n s && may-take n (remaining-of n s) (taken-of n s) a) (Some (number-of n (1 - player-of n s) (remaining-of n s - a) a)) None
 
 -- Fibonacci Nim with n matches: the kiosk begins, as if all had been taken last, and wins if none remain at the public's turn
 abbrev pub nim-meaning : ℕ → Meaning
 nim-meaning n = record {
   size = nim-size n;
   ceiling = 44;
-  public = λ s. is-state n s && eqb (player n s) 1;
-  start = λ s. is-state n s && eqb s (number n 0 n n);
-  end = λ s. is-state n s && eqb (remaining n s) 0;
-  goal = λ s. is-state n s && (eqb (player n s) 1 && eqb (remaining n s) 0);
+  public = λ s. is-state n s && eqb (player-of n s) 1;
+  start = λ s. is-state n s && eqb s (number-of n 0 n n);
+  end = λ s. is-state n s && eqb (remaining-of n s) 0;
+  goal = λ s. is-state n s && (eqb (player-of n s) 1 && eqb (remaining-of n s) 0);
   next = nim-next n;
 }

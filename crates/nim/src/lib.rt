@@ -1,8 +1,8 @@
 // Fibonacci Nim as a game between the kiosk and the public.
 ghost use mathlib.Core.Path.{_≡_};
 ghost use mathlib.Core.Bool.{true};
-ghost use Prim.Native.Nat.{ℕ, _+_, _-_, _*_, _/_, _%_, _<_, _≤_};
-ghost use Rattle.nim.specs.Nims.{nim-meaning, is-state, number, state-of, State};
+ghost use Prim.Native.Nat.{_≤_};
+ghost use Rattle.nim.specs.Nims.{nim-meaning, is-state, number-of, state-of, State};
 ghost use Rattle.nim.specs.NimLaws.{nim-lawful};
 ghost use Rattle.nim.specs.Positions.{Stands, EveryState};
 use game::Game;
@@ -19,7 +19,7 @@ pub struct Nim {
 // The number of a state, which counts first by what was taken last, then by what remains, then by the player.
 fn number(n: usize, player: usize, remaining: usize, taken: usize) -> usize
     requires { ⌜ n ≤ 44 ⌝ ∗ ⌜ player ≤ 1 ⌝ ∗ ⌜ remaining ≤ n ⌝ ∗ ⌜ 1 ≤ taken ⌝ ∗ ⌜ taken ≤ n ⌝ }
-    ensures { λ r. ⌜ r ≡ number n player remaining taken ⌝ }
+    ensures { λ r. ⌜ r ≡ number-of n player remaining taken ⌝ }
 {
     (player * (n + 1) + remaining) * n + taken - 1
 }

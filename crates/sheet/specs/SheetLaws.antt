@@ -1,12 +1,12 @@
 -- The laws of every game hold of a sheet.
-use Prim.Native.Nat.{ℕ, _+_, _<_, _≤_}
+use Prim.Native.Nat.{ℕ, _<_}
 use mathlib.Core.Path.{_≡_, refl, subst}
 use mathlib.Core.Bool.{Bool, true, false, cond}
 use mathlib.Core.List.{List}
 use native.Mathlib.Omega.{arith}
 use lib.Dec.{ltb, lit≤}
 use lib.ListN.{length, getD}
-use Rattle.std.proofs.shelf.Tests.{ltb-true, le-ltb, and-parts, and-left, and-right, cond-false}
+use Rattle.std.proofs.shelf.Tests.{ltb-true, le-ltb, and-left, and-right, cond-false}
 use Rattle.std.specs.declared.option.Option.{Option}
 use Rattle.std.specs.declared.option.Option.the-variants.{Some, None}
 use Rattle.game.specs.Meaning.{Lawful}

@@ -1,6 +1,5 @@
 // The two tables of a sheet, a row for each state and the moves of all rows, and the game that they stand for.
 ghost use mathlib.Core.Path.{_≡_};
-ghost use Prim.Native.Nat.{ℕ, _+_, _-_, _<_, _≤_};
 ghost use denote.Ref.{now};
 ghost use Rattle.sheet.specs.Sheets.{NextIs, sheet-next, sheet-meaning, target-of, has-flag};
 ghost use Rattle.sheet.specs.SheetLaws.{sheet-lawful};
