@@ -2,8 +2,6 @@
 ghost use mathlib.Core.Path.{_≡_};
 ghost use mathlib.Core.Bool.{not};
 ghost use mathlib.Core.List.{[]};
-ghost use Prim.Native.Nat.{ℕ, _+_, _<_, _≤_};
-ghost use lib.ListN.{length, take, drop};
 ghost use Rattle.std.specs.Options.{isSome, mapped, valueOr};
 ghost use Rattle.std.specs.Vec.{made};
 ghost use Rattle.std.specs.declared.option.Option.the-variants.{None, Some};
@@ -13,21 +11,24 @@ ghost use Rattle.law.specs.declared.Call.the-variants.{Plan, Open, Reply, Repor
 ghost use Rattle.law.specs.declared.Answer.the-variants.{Planned, Opened, Reported, Rated, Barred, Seen, Left};
 ghost use Rattle.law.specs.Checks.{first-fault};
 ghost use Rattle.law.specs.Answers.{plan-answer, plan-verdict, open-answer, reply-answer, chosen-move, report-answer, rating, rate-answer, bar-answer, lift-answer, look-answer, over-at, leave-answer};
-ghost use Rattle.law.specs.Log.{Log, behind};
+ghost use Rattle.law.specs.Log.{behind};
 ghost use Rattle.law.specs.Law.{answered, replied};
 ghost use Rattle.watch.specs.Memory.{bars-of, ranking-of, counted, moved-to, after, AfterPlan, replied-to, barred-too, lifted};
 ghost use Rattle.solver.specs.Cells.{cell-at, ranking-in};
-ghost use Rattle.watch.specs.Lived.{Lived, Extends, LawHolds, carried-out, log-of};
+ghost use Rattle.watch.specs.Lived.{Lived, Extends};
 use game::Game;
 use game::is_done;
-use law::Answer;
-use law::Call;
 use law::Fault;
 use law::Rating;
 use law::Verdict;
 use law::View;
 use solver::Cell;
 use solver::cell_at;
+
+mod parts;
+mod session;
+
+pub use session::watch_all;
 
 // A cell with rank and choice for each state.
 #[derive(Drop)]
@@ -61,27 +62,6 @@ impl<G: Game> Watch<G> {
         let table = Table { cells: [Cell { rank: None, choice: None }; 4096] };
         let memory = Memory { bars: 0, position: None, planned: false, refusals: 0, table };
         Watch { game, memory }
-    }
-
-    // The game that the watch is over.
-    pub fn game(&self) -> &G
-        ensures { λ r. ⌜ now r ≡ now (self .entry) .game ⌝ }
-    {
-        &self.game
-    }
-
-    // Whether a plan stands.
-    pub fn is_planned(&self) -> bool
-        ensures { λ r. ⌜ r ≡ now (self .entry) .memory .planned ⌝ }
-    {
-        self.memory.planned
-    }
-
-    // The cells of the last plan. They say nothing where none stands.
-    pub fn cells(&self) -> &[Cell]
-        ensures { λ r. ⌜ now r ≡ now (self .entry) .memory .table .cells ⌝ }
-    {
-        &self.memory.table.cells
     }
 
     // Counts a refusal, or takes the run to the position.
@@ -361,60 +341,6 @@ impl<G: Game> Watch<G> {
         let answer = self.judge_leave();
         self.finish(answer, None)
     }
-}
-
-// A result as an answer.
-macro_rules! told {
-    ($result:expr, $value:pat => $answer:expr) => {
-        match $result {
-            Ok($value) => $answer,
-            Err(fault) => Answer::Refused(fault),
-        }
-    };
-}
-
-impl<G: Game> Watch<G> {
-    // Carries out one call.
-    pub fn ask(&mut self, call: Call) -> Answer
-        ensures same { λ _. ⌜ now (self .exit) .game ≡ now (self .entry) .game ⌝ }
-        ensures extends { λ r. ⌜ Extends (meaning (now (self .entry) .game)) (now (self .entry) .memory) call r (now (self .exit) .memory) ⌝ }
-    {
-        match call {
-            Call::Plan => told!(self.plan(), verdict => Answer::Planned(verdict)),
-            Call::Open(state) => told!(self.open(state), rank => Answer::Opened(rank)),
-            Call::Reply => told!(self.reply(), (label, rank) => Answer::Replied { label, rank }),
-            Call::Report(label) => told!(self.report(label), state => Answer::Reported(state)),
-            Call::Rate(state) => told!(self.rate(state), rating => Answer::Rated(rating)),
-            Call::Bar(label) => told!(self.bar(label), count => Answer::Barred(count)),
-            Call::Lift(label) => told!(self.lift(label), count => Answer::Barred(count)),
-            Call::Look => Answer::Seen(self.look()),
-            Call::Leave => told!(self.leave(), state => Answer::Left(state)),
-        }
-    }
-
-    // Carries out the calls in order, as many as there is room for answers, and answers how many.
-    pub fn carry_out(&mut self, calls: &[Call], answers: &mut [Answer]) -> usize
-        ensures same { λ _. ⌜ now (self .exit) .game ≡ now (self .entry) .game ⌝ }
-        ensures value { λ r. ⌜ r ≡ carried-out (now (calls .entry)) (now (answers .entry)) ⌝ }
-        ensures rest { λ r. ⌜ drop r (now (answers .exit)) ≡ drop r (now (answers .entry)) ⌝ }
-        ensures extends { λ r. ⌜ ((L : Log) → Lived (meaning (now (self .entry) .game)) L (now (self .entry) .memory) → Lived (meaning (now (self .entry) .game)) (log-of r (now (calls .entry)) (now (answers .exit)) L) (now (self .exit) .memory)) ⌝ }
-    {
-        let n = calls.len().min(answers.len());
-        for i in 0..n {
-            answers[i] = self.ask(calls[i]);
-        }
-        n
-    }
-}
-
-// A new watch over a game of any make, asked any list of calls: THE LAW stands on this call, whole.
-pub fn watch_all<G: Game + Drop>(game: G, calls: &[Call], answers: &mut [Answer]) -> usize
-    ensures value { λ r. ⌜ r ≡ carried-out (now (calls .entry)) (now (answers .entry)) ⌝ }
-    ensures rest { λ r. ⌜ drop r (now (answers .exit)) ≡ drop r (now (answers .entry)) ⌝ }
-    ensures law { λ r. ⌜ LawHolds (meaning game) (log-of r (now (calls .entry)) (now (answers .exit)) []) ⌝ }
-{
-    let mut watch = Watch::new(game);
-    watch.carry_out(calls, answers)
 }
 
 // One refusal more; the count stays at its highest value once there.
