@@ -1,8 +1,8 @@
 -- No listing is longer than 53,258 bytes.
-use mathlib.Core.Path.{_≡_, refl, ap, subst, sym}
+use mathlib.Core.Path.{_≡_, refl}
 use mathlib.Core.Bool.{Bool, true, false, cond}
-use mathlib.Core.List.{List, [], _++_}
-use Prim.Native.Nat.{ℕ, zero, suc, _+_, _*_, _^_, _≤_, _<_}
+use mathlib.Core.List.{[]}
+use Prim.Native.Nat.{ℕ, zero, suc, _+_, _*_, _≤_, _<_}
 use native.Mathlib.Omega.{arith}
 use lib.Chars.{codes}
 use lib.ListN.{length, length-append}
@@ -11,12 +11,12 @@ use Rattle.std.specs.declared.option.Option.the-variants.{None, Some}
 use Rattle.game.specs.Meaning.{Meaning, Lawful}
 use Rattle.game.specs.Search.{first-below, highest}
 use Rattle.game.specs.Ranks.{Bars, rank, choice}
-use Rattle.game.proofs.Searches.{Lowest, first-is, highest-le, none-some}
+use Rattle.game.proofs.Searches.{first-is, highest-le, none-some}
 use Rattle.game.proofs.Layers.{rank-is}
 use Rattle.game.proofs.Meanings.{label-low}
-use Rattle.game.proofs.Winning.{choice-is, Chosen}
-use Rattle.law.specs.Answers.{Ranking, ranking, verdict, lost-start, start-rank, plan-verdict}
-use Rattle.text.specs.Lines.{count-line, line}
+use Rattle.game.proofs.Winning.{choice-is}
+use Rattle.law.specs.Answers.{Ranking, ranking, verdict, lost-start, start-rank}
+use Rattle.text.specs.Lines.{count-line}
 use Rattle.text.proofs.Lines.{count-le, line-le}
 use Rattle.listing.specs.Lines.{has-line, entry-with, entry-text, line-of, lines-below, text-after, listing-text}
 use Rattle.listing.proofs.Texts.{lines-longer}
@@ -44,11 +44,14 @@ module _ (m : Meaning) (ρ : Ranking) (few : m .size ≤ 4096) (labels : (s l : 
     where
       top : ℕ
       top = highest (start-rank m (ρ .rank)) (m .size)
+
       started : (b : Bool) (s r : ℕ) → cond b (ρ .rank s) None ≡ Some r → r ≤ 4096
       started true s r e = ranks s r e
       started false s r e = absurd (none-some refl e)
+
       low : top ≤ 4096
       low = highest-le (start-rank m (ρ .rank)) (m .size) 4096 (λ s r lt e. started (m .start s) s r e)
+
       go : (o : Option ℕ) → ((s : ℕ) → o ≡ Some s → s < m .size) → length (text-after m ρ (verdict o top)) ≤ 10 + 4096 * 13
       go None in′ =
           omega (arith, low, count-le 4 (codes "HELD ") top (omega arith) (omega (arith, low)) (omega (arith, low)), length-append (count-line (codes "HELD ") top) (lines-below m ρ (m .size)), lines-short (m .size) few)

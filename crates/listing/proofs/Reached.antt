@@ -1,21 +1,19 @@
 -- A state is reached exactly if a play by the choices leads there.
 use mathlib.Core.Path.{_≡_, refl, sym, ap, subst, _∙_}
-use mathlib.Core.Bool.{Bool, true, false, not, cond, _&&_, _||_}
+use mathlib.Core.Bool.{Bool, true, false, not, _&&_}
 use mathlib.Core.List.{List, [], _∷_}
 use mathlib.Core.Logic.{_⊎_, inl, inr, ⊎-elim}
-use Prim.Native.Nat.{ℕ, zero, suc, _+_, _≤_, _<_}
+use Prim.Native.Nat.{ℕ, zero, suc, _≤_, _<_}
 use native.Mathlib.Omega.{arith}
 use lib.ListN.{length}
-use Rattle.std.specs.Orderings.{Decides}
 use Rattle.std.proofs.shelf.Tests.{cases-bool, cases-lt, cond-true, cond-false, and-parts, and-from, or-cases, or-left, or-right, not-true, not-from-false, both-ways}
-use Rattle.std.specs.declared.option.Option.{Option}
 use Rattle.std.specs.declared.option.Option.the-variants.{None, Some}
-use Rattle.game.specs.Meaning.{Meaning, Lawful, Nowhere, Step}
-use Rattle.game.specs.Search.{some-below, count-below}
+use Rattle.game.specs.Meaning.{Meaning, Lawful, Step}
+use Rattle.game.specs.Search.{count-below}
 use Rattle.game.specs.Ranks.{is}
 use Rattle.game.specs.Strategies.{Move, at}
 use Rattle.game.proofs.Meanings.{label-low, step-inside, start-inside}
-use Rattle.game.proofs.Searches.{is-eq, eq-is, some-decides, none-some, same-some, option-cases, count-le, count-same}
+use Rattle.game.proofs.Searches.{is-eq, eq-is, some-decides, none-some, count-le, count-same}
 use Rattle.law.specs.Answers.{Ranking}
 use Rattle.listing.specs.Reach.{may-take, follow, joins, reached-within, reached, ByChoices, Reaches}
 
@@ -28,16 +26,17 @@ module _ (m : Meaning) (ρ : Ranking) where
   follow-taken s l t e =
       ⊎-elim
       (λ may.
-        let both = and-parts (not (m .end s)) _ may in
-        ((not-true (m .end s) (both .0), sym (cond-true (may-take m ρ s l) (m .next s l) None may) ∙ e),
-         λ kio. ⊎-elim (λ pub′. absurd (both-ways _ kio pub′)) (λ c. is-eq (ρ .choice s) l c) (or-cases (m .public s) _ (both .1))))
+      let both = and-parts (not (m .end s)) _ may in (
+        (not-true (m .end s) (both .0), sym (cond-true (may-take m ρ s l) (m .next s l) None may) ∙ e),
+        λ kio. ⊎-elim (λ pub′. absurd (both-ways _ kio pub′)) (λ c. is-eq (ρ .choice s) l c) (or-cases (m .public s) _ (both .1)),
+      ))
       (λ not′. absurd (none-some (cond-false (may-take m ρ s l) (m .next s l) None not′) e))
       (cases-bool (may-take m ρ s l))
 
   pub taken-follow : (s l t : ℕ) → Taken s l t → follow m ρ s l ≡ Some t
   taken-follow s l t x =
       let may : may-take m ρ s l ≡ true = and-from _ _ (not-from-false _ (x .0 .0))
-          (⊎-elim (λ pub′. or-left _ _ pub′) (λ kio. or-right (m .public s) _ (eq-is (ρ .choice s) l (x .1 kio))) (cases-bool (m .public s))) in
+      (⊎-elim (λ pub′. or-left _ _ pub′) (λ kio. or-right (m .public s) _ (eq-is (ρ .choice s) l (x .1 kio))) (cases-bool (m .public s))) in
       cond-true (may-take m ρ s l) (m .next s l) None may ∙ x .0 .1
 
   -- one move more leads from a state reached to another
@@ -59,10 +58,10 @@ module _ (m : Meaning) (ok : Lawful m) (ρ : Ranking) where
   within-of k t e =
       ⊎-elim inl
       (λ f.
-        let any = some-decides (λ s. joins m ρ s t && reached-within m ρ k s) (m .size) .0 f in
-        let both = and-parts _ _ (any .2) in
-        let by = some-decides (λ l. is (follow m ρ (any .0) l) t) (m .ceiling) .0 (both .0) in
-        inr (any .0, by .0, both .1, is-eq (follow m ρ (any .0) (by .0)) t (by .2)))
+      let any = some-decides (λ s. joins m ρ s t && reached-within m ρ k s) (m .size) .0 f in
+      let both = and-parts _ _ (any .2) in
+      let by = some-decides (λ l. is (follow m ρ (any .0) l) t) (m .ceiling) .0 (both .0) in
+      inr (any .0, by .0, both .1, is-eq (follow m ρ (any .0) (by .0)) t (by .2)))
       (or-cases (m .start t) _ e)
 
   pub within-to : (k t : ℕ) → Next m ρ (reached-within m ρ k) t → reached-within m ρ (suc k) t ≡ true
@@ -116,9 +115,9 @@ module _ (m : Meaning) (ok : Lawful m) (ρ : Ranking) where
       ⊎-elim
       (λ old. inl (old .0, omega (arith, old .1), old .2))
       (λ big. ⊎-elim
-        (λ more. inr (omega arith))
-        (λ same. inl (j, omega arith, λ t e. count-same (reached-within m ρ j) (reached-within m ρ (suc j)) (m .size) (within-more j) same t (next-inside (reached-within m ρ j) t (within-of j t e)) e))
-        (cases-lt (count-below (reached-within m ρ j) (m .size)) (count-below (reached-within m ρ (suc j)) (m .size))))
+      (λ more. inr (omega arith))
+      (λ same. inl (j, omega arith, λ t e. count-same (reached-within m ρ j) (reached-within m ρ (suc j)) (m .size) (within-more j) same t (next-inside (reached-within m ρ j) t (within-of j t e)) e))
+      (cases-lt (count-below (reached-within m ρ j) (m .size)) (count-below (reached-within m ρ (suc j)) (m .size))))
       (grows j)
 
   settled : (i : ℕ) × (i < suc (m .size)) × Stable i
@@ -154,12 +153,3 @@ module _ (m : Meaning) (ok : Lawful m) (ρ : Ranking) where
 
   pub reaches-reached : (t : ℕ) → Reaches m ρ t → reached m ρ t ≡ true
   reaches-reached t r = ap (reached m ρ) (sym (r .there)) ∙ within-reached (length (r .play)) (at (r .from) (r .play)) (play-within (r .from) (r .starts) (r .play) (r .by-choices))
-
-  pub reached-decides : (t : ℕ) → Decides (reached m ρ t) (Reaches m ρ t)
-  reached-decides t = (reached-reaches t, reaches-reached t)
-
-  pub reached-inside : (t : ℕ) → reached m ρ t ≡ true → t < m .size
-  reached-inside t e = closed-inside t (reached-reaches t e)
-    where
-      closed-inside : (t : ℕ) → Reaches m ρ t → t < m .size
-      closed-inside t r = next-inside (reached-within m ρ (length (r .play))) t (within-of (length (r .play)) t (within-more (length (r .play)) t (ap (reached-within m ρ (length (r .play))) (sym (r .there)) ∙ play-within (r .from) (r .starts) (r .play) (r .by-choices))))

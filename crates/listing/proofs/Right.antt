@@ -1,29 +1,27 @@
 -- The lines of a listing are right.
-use mathlib.Core.Path.{_≡_, refl, sym, ap, subst, _∙_}
-use mathlib.Core.Bool.{Bool, true, false, not, cond, _&&_, _||_}
+use mathlib.Core.Path.{_≡_, refl, sym, ap, _∙_}
+use mathlib.Core.Bool.{true, false, not}
 use mathlib.Core.List.{List, [], _∷_}
-use mathlib.Core.Logic.{_⊎_, inl, inr, ⊎-elim}
-use Prim.Native.Nat.{ℕ, zero, suc, _+_, _≤_, _<_}
+use mathlib.Core.Logic.{_⊎_, ⊎-elim}
+use Prim.Native.Nat.{ℕ}
 use native.Mathlib.Omega.{arith}
 use Rattle.std.specs.Options.{isSome}
-use Rattle.std.specs.Orderings.{Decides}
 use Rattle.std.proofs.shelf.Tests.{cases-bool, cond-true, and-parts, and-from, not-true, not-from-false, both-ways}
 use Rattle.std.specs.declared.option.Option.{Option}
 use Rattle.std.specs.declared.option.Option.the-variants.{None, Some}
-use Rattle.game.specs.Meaning.{Meaning, Lawful, done, Step}
+use Rattle.game.specs.Meaning.{Meaning, Lawful}
 use Rattle.game.specs.Search.{first-below, highest}
-use Rattle.game.specs.Ranks.{Bars, rank, choice}
+use Rattle.game.specs.Ranks.{Bars, rank}
 use Rattle.game.specs.Strategies.{Move, at, Strategy, Follows}
 use Rattle.game.specs.Final.{PlaysChoices}
 use Rattle.game.proofs.Meanings.{start-inside}
-use Rattle.game.proofs.Searches.{option-cases, none-some, first-none, is-some}
+use Rattle.game.proofs.Searches.{option-cases, first-none}
 use Rattle.game.proofs.Winning.{public-down, choice-down, choice-has}
-use Rattle.law.specs.Answers.{Ranking, ranking, plan-verdict, verdict, lost-start, start-rank}
-use Rattle.law.specs.declared.Verdict.the-variants.{Held, Lost}
-use Rattle.text.specs.Lines.{line}
-use Rattle.listing.specs.Reach.{reached, ByChoices, Reaches}
-use Rattle.listing.specs.Lines.{has-line, entry-with, entry-text, line-of}
-use Rattle.listing.specs.Plays.{Visits, Due, Says, Right}
+use Rattle.law.specs.Answers.{ranking, plan-verdict, verdict, lost-start, start-rank}
+use Rattle.law.specs.declared.Verdict.the-variants.{Held}
+use Rattle.listing.specs.Reach.{reached, ByChoices}
+use Rattle.listing.specs.Lines.{has-line, entry-with, entry-text}
+use Rattle.listing.specs.Plays.{Due, Says, Right}
 use Rattle.listing.proofs.Bound.{plan-short}
 use Rattle.listing.proofs.Reached.{reached-reaches, reaches-reached}
 

@@ -2,7 +2,7 @@
 use mathlib.Core.Path.{_≡_, refl, sym, ap, subst, _∙_}
 use mathlib.Core.Bool.{Bool, true, false}
 use mathlib.Core.List.{List}
-use mathlib.Core.Logic.{_⊎_, inl, inr, ⊎-elim}
+use mathlib.Core.Logic.{_⊎_, ⊎-elim}
 use Prim.Native.Nat.{ℕ, zero, suc, _+_, _≤_, _<_}
 use native.Mathlib.Omega.{arith}
 use lib.ListN.{length, getD, set, replicate}
@@ -11,11 +11,11 @@ use Rattle.std.proofs.shelf.Tests.{cases-bool, cases-lt, cases-eq, both-ways}
 use Rattle.std.specs.declared.option.Option.the-variants.{Some}
 use Rattle.game.specs.Meaning.{Meaning, Lawful}
 use Rattle.game.specs.Search.{count-below}
-use Rattle.game.proofs.Searches.{count-le, count-mono, count-same}
+use Rattle.game.proofs.Searches.{count-le, count-same}
 use Rattle.law.specs.Answers.{Ranking}
 use Rattle.listing.specs.Reach.{Reaches, follow, reached}
 use Rattle.listing.specs.Walks.{marked, Walking, Later, Followed, Marked}
-use Rattle.listing.proofs.Reached.{closed, reaches-reached, reached-reaches}
+use Rattle.listing.proofs.Reached.{closed, reaches-reached}
 
 -- one more passes
 count-more : (p q : ℕ → Bool) (n t : ℕ) → ((k : ℕ) → p k ≡ true → q k ≡ true) → t < n → p t ≡ false → q t ≡ true → count-below p n < count-below q n
@@ -64,13 +64,13 @@ module _ (q : List ℕ) (s : List Bool) (n t : ℕ) (seat : n < length q) (place
     sound = λ u e. ⊎-elim (λ same. subst (Reaches m ρ) (sym same) r) (λ ne. w .sound u (sym (mark-other u ne) ∙ e)) (cases-eq u t);
     counted = omega (arith, w .counted, count-more (marked s) (marked (set s t true)) (m .size) t mark-grows in′ new mark-here);
     lined = λ j lt. ⊎-elim
-      (λ less. ap (marked (set s t true)) (seat-keeps j less) ∙ mark-grows (getD q j 0) (w .lined j less))
-      (λ ge. let same : j ≡ n = omega arith in ap (λ x. marked (set s t true) (getD (set q n t) x 0)) same ∙ ap (marked (set s t true)) (getD-set-same q n t 0 seat) ∙ mark-here)
-      (cases-lt j n);
+        (λ less. ap (marked (set s t true)) (seat-keeps j less) ∙ mark-grows (getD q j 0) (w .lined j less))
+        (λ ge. let same : j ≡ n = omega arith in ap (λ x. marked (set s t true) (getD (set q n t) x 0)) same ∙ ap (marked (set s t true)) (getD-set-same q n t 0 seat) ∙ mark-here)
+        (cases-lt j n);
     stands = λ u e. ⊎-elim
-      (λ same. (n, omega arith, getD-set-same q n t 0 seat ∙ sym same))
-      (λ ne. let at = w .stands u (sym (mark-other u ne) ∙ e) in (at .0, omega (arith, at .1), seat-keeps (at .0) (at .1) ∙ at .2))
-      (cases-eq u t);
+        (λ same. (n, omega arith, getD-set-same q n t 0 seat ∙ sym same))
+        (λ ne. let at = w .stands u (sym (mark-other u ne) ∙ e) in (at .0, omega (arith, at .1), seat-keeps (at .0) (at .1) ∙ at .2))
+        (cases-eq u t);
   }
 
 module _ (m : Meaning) (ok : Lawful m) (ρ : Ranking) (q : List ℕ) (s : List Bool) (n : ℕ) where

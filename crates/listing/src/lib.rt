@@ -1,19 +1,20 @@
 // The listing of a plan: its verdict, and the lines of the states that plays by its choices reach.
 ghost use Prim.Native.Nat.{_≤_};
 ghost use Rattle.game.specs.Ranks.{Bars};
+ghost use Rattle.law.specs.Answers.{ranking};
+ghost use Rattle.law.specs.Log.{Log, barred, stands};
+ghost use Rattle.law.specs.declared.Verdict.the-variants.{Held};
 ghost use Rattle.listing.specs.Answers.{listed, number-of, put-whole};
 ghost use Rattle.listing.specs.Lines.{listing-text, text-after};
 ghost use Rattle.listing.specs.Plays.{Right};
-ghost use Rattle.law.specs.declared.Verdict.the-variants.{Held};
 ghost use Rattle.solver.specs.Cells.{Solved, ranking-in};
-ghost use Rattle.law.specs.Answers.{ranking};
-ghost use Rattle.text.specs.Places.{Written};
-ghost use lib.ListN.{length};
-ghost use Rattle.law.specs.Log.{Log, barred, stands};
-ghost use Rattle.watch.specs.Memory.{ranking-of};
-ghost use Rattle.watch.specs.Lived.{Lived};
 ghost use Rattle.text.specs.Lines.{count-line};
+ghost use Rattle.text.specs.Places.{Written};
+ghost use Rattle.watch.specs.Lived.{Lived};
+ghost use Rattle.watch.specs.Memory.{ranking-of};
 ghost use lib.Chars.{codes};
+ghost use lib.ListN.{length};
+ghost use mathlib.Core.Bool.{true};
 ghost use mathlib.Core.Path.{_≡_};
 
 mod lines;
@@ -52,9 +53,33 @@ impl ListFault {
     }
 }
 
+// Writes the listing of the watch's plan, and answers its length; bytes beyond it are kept. Refused without a standing
+// plan, then where the output is too short; a refusal leaves the output as found. Nothing in the watch moves.
+pub fn list<G: Game>(watch: &Watch<G>, out: &mut [u8]) -> Result<usize, ListFault>
+    ensures value { λ r. ⌜ (r, now (out .exit)) ≡ listed (meaning (now (watch .entry) .game)) (ranking-of (now (watch .entry) .memory)) (now (watch .entry) .memory .planned) (now (out .entry)) ⌝ }
+    ensures lived { λ r. ⌜ ((L : Log) → Lived (meaning (now (watch .entry) .game)) L (now (watch .entry) .memory) → (r, now (out .exit)) ≡ listed (meaning (now (watch .entry) .game)) (ranking (meaning (now (watch .entry) .game)) (barred L)) (stands L) (now (out .entry))) ⌝ }
+    ensures standing { λ r. ⌜ ((L : Log) → Lived (meaning (now (watch .entry) .game)) L (now (watch .entry) .memory) → stands L ≡ true → (r, now (out .exit)) ≡ put-whole (listing-text (meaning (now (watch .entry) .game)) (ranking (meaning (now (watch .entry) .game)) (barred L))) (now (out .entry))) ⌝ }
+    ensures right { λ _. ⌜ ((b : Bars) → Right (meaning (now (watch .entry) .game)) b) ⌝ }
+{
+    list_watch(watch, out)
+}
+
+fn list_watch<G: Game>(watch: &Watch<G>, out: &mut [u8]) -> Result<usize, ListFault>
+    ensures value { λ r. ⌜ (r, now (out .exit)) ≡ listed (meaning (now (watch .entry) .game)) (ranking-of (now (watch .entry) .memory)) (now (watch .entry) .memory .planned) (now (out .entry)) ⌝ }
+    ensures lived { λ r. ⌜ ((L : Log) → Lived (meaning (now (watch .entry) .game)) L (now (watch .entry) .memory) → (r, now (out .exit)) ≡ listed (meaning (now (watch .entry) .game)) (ranking (meaning (now (watch .entry) .game)) (barred L)) (stands L) (now (out .entry))) ⌝ }
+    ensures right { λ _. ⌜ ((b : Bars) → Right (meaning (now (watch .entry) .game)) b) ⌝ }
+{
+    list_cells(watch.game(), watch.cells(), watch.is_planned(), out)
+}
+
 // Writes the listing of the plan in `cells`, if one stands, and answers its length. No plan stands of a game that is too
 // large for one.
-pub fn list_cells<G: Game>(game: &G, cells: &[Cell], planned: bool, out: &mut [u8]) -> Result<usize, ListFault>
+fn list_cells<G: Game>(
+    game: &G,
+    cells: &[Cell],
+    planned: bool,
+    out: &mut [u8],
+) -> Result<usize, ListFault>
     ensures value { λ r. ⌜ (r, now (out .exit)) ≡ listed (meaning (now (game .entry))) (ranking-in (now (cells .entry))) planned (now (out .entry)) ⌝ }
     ensures solved { λ r. ⌜ ((b : Bars) → Solved (meaning (now (game .entry))) b (now (cells .entry)) → (r, now (out .exit)) ≡ listed (meaning (now (game .entry))) (ranking (meaning (now (game .entry))) b) planned (now (out .entry))) ⌝ }
     ensures right { λ _. ⌜ ((b : Bars) → Right (meaning (now (game .entry))) b) ⌝ }
@@ -86,7 +111,12 @@ fn list_lost(s: usize, out: &mut [u8]) -> Result<usize, ListFault>
 }
 
 // The length is known before the first byte is written, so that a refusal leaves the output as found.
-fn list_held<G: Game>(game: &G, cells: &[Cell], top: u32, out: &mut [u8]) -> Result<usize, ListFault>
+fn list_held<G: Game>(
+    game: &G,
+    cells: &[Cell],
+    top: u32,
+    out: &mut [u8],
+) -> Result<usize, ListFault>
     requires { ⌜ meaning (now game) .size ≤ 4096 ⌝ }
     ensures { λ r. ⌜ (r, now (out .exit)) ≡ put-whole (text-after (meaning (now (game .entry))) (ranking-in (now (cells .entry))) (Held top)) (now (out .entry)) ⌝ }
 {
@@ -105,14 +135,4 @@ fn put_held(out: &mut [u8], top: u32) -> usize
     ensures { λ r. ⌜ Written (now (out .entry)) 0 (count-line (codes "HELD ") top) r (now (out .exit)) ⌝ }
 {
     put_count(out, 0, b"HELD ", top as u64).unwrap_or(0)
-}
-
-// Writes the listing of the watch's plan, and answers its length; bytes beyond it are kept. Refused without a standing
-// plan, then where the output is too short; a refusal leaves the output as found. Nothing in the watch moves.
-pub fn list<G: Game>(watch: &Watch<G>, out: &mut [u8]) -> Result<usize, ListFault>
-    ensures value { λ r. ⌜ (r, now (out .exit)) ≡ listed (meaning (now (watch .entry) .game)) (ranking-of (now (watch .entry) .memory)) (now (watch .entry) .memory .planned) (now (out .entry)) ⌝ }
-    ensures lived { λ r. ⌜ ((L : Log) → Lived (meaning (now (watch .entry) .game)) L (now (watch .entry) .memory) → (r, now (out .exit)) ≡ listed (meaning (now (watch .entry) .game)) (ranking (meaning (now (watch .entry) .game)) (barred L)) (stands L) (now (out .entry))) ⌝ }
-    ensures right { λ _. ⌜ ((b : Bars) → Right (meaning (now (watch .entry) .game)) b) ⌝ }
-{
-    list_cells(watch.game(), watch.cells(), watch.is_planned(), out)
 }

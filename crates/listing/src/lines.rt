@@ -8,7 +8,6 @@ ghost use Rattle.text.specs.Places.{Written};
 ghost use lib.ListN.{length};
 ghost use mathlib.Core.Bool.{_&&_, not};
 ghost use mathlib.Core.Path.{_≡_};
-
 use crate::walk::Walk;
 use game::Game;
 use solver::Cell;
@@ -38,7 +37,11 @@ fn entry_in(cells: &[Cell], s: usize) -> Option<Entry>
 {
     let cell = cell_at(cells, s);
     match (cell.choice, cell.rank) {
-        (Some(label), Some(rank)) => Some(Entry { state: s, label, rank }),
+        (Some(label), Some(rank)) => Some(Entry {
+            state: s,
+            label,
+            rank,
+        }),
         _ => None,
     }
 }
@@ -49,7 +52,11 @@ fn entry_of<G: Game>(game: &G, cells: &[Cell], walk: &Walk, s: usize) -> Option<
     requires walked { ⌜ Marked (meaning (now game)) (ranking-in (now cells)) (now walk .seen) ⌝ }
     ensures { λ r. ⌜ r ≡ entry-of (meaning (now (game .entry))) (ranking-in (now (cells .entry))) s ⌝ }
 {
-    if has_line(game, walk, s) { entry_in(cells, s) } else { None }
+    if has_line(game, walk, s) {
+        entry_in(cells, s)
+    } else {
+        None
+    }
 }
 
 fn entry_width(entry: Option<Entry>) -> usize
@@ -82,13 +89,22 @@ fn put_entry(out: &mut [u8], at: usize, entry: Option<Entry>) -> usize
     ensures { λ r. ⌜ Written (now (out .entry)) at (entry-text entry) r (now (out .exit)) ⌝ }
 {
     match entry {
-        Some(e) => put_line(out, at, b"", e.state as u64, e.label as u64, e.rank as u64).unwrap_or(at),
+        Some(e) => put_line(out, at, b"", e.state as u64, e.label as u64, e.rank as u64).unwrap_or(
+            at,
+        ),
         None => at,
     }
 }
 
 // Writes what a state has of the listing.
-fn put_state<G: Game>(game: &G, cells: &[Cell], walk: &Walk, out: &mut [u8], at: usize, s: usize) -> usize
+fn put_state<G: Game>(
+    game: &G,
+    cells: &[Cell],
+    walk: &Walk,
+    out: &mut [u8],
+    at: usize,
+    s: usize,
+) -> usize
     requires state { ⌜ s < 4096 ⌝ }
     requires walked { ⌜ Marked (meaning (now game)) (ranking-in (now cells)) (now walk .seen) ⌝ }
     requires room { ⌜ at + length (line-of (meaning (now game)) (ranking-in (now cells)) s) ≤ length (now out) ⌝ }
@@ -98,7 +114,13 @@ fn put_state<G: Game>(game: &G, cells: &[Cell], walk: &Walk, out: &mut [u8], at:
 }
 
 // Writes all lines, for which there is room, and answers where they end.
-pub(crate) fn put_lines<G: Game>(game: &G, cells: &[Cell], walk: &Walk, out: &mut [u8], at: usize) -> usize
+pub(crate) fn put_lines<G: Game>(
+    game: &G,
+    cells: &[Cell],
+    walk: &Walk,
+    out: &mut [u8],
+    at: usize,
+) -> usize
     requires few { ⌜ meaning (now game) .size ≤ 4096 ⌝ }
     requires walked { ⌜ Marked (meaning (now game)) (ranking-in (now cells)) (now walk .seen) ⌝ }
     requires room { ⌜ at + length (lines-below (meaning (now game)) (ranking-in (now cells)) (meaning (now game) .size)) ≤ length (now out) ⌝ }

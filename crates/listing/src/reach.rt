@@ -3,13 +3,12 @@ ghost use Prim.Native.Nat.{ℕ, _<_, _≤_};
 ghost use Rattle.game.specs.Meaning.{Meaning};
 ghost use Rattle.game.specs.Ranks.{is};
 ghost use Rattle.law.specs.Answers.{Ranking};
-ghost use Rattle.listing.specs.Reach.{Reaches, follow, may-take};
+ghost use Rattle.listing.specs.Reach.{Reaches, follow};
 ghost use Rattle.listing.specs.Walks.{Followed, Later, Marked, Walking, marked};
 ghost use Rattle.solver.specs.Cells.{cell-at, ranking-in};
 ghost use Rattle.std.specs.declared.option.Option.the-variants.{Some};
 ghost use mathlib.Core.Bool.{false, true};
 ghost use mathlib.Core.Path.{_≡_};
-
 use crate::walk::Walk;
 use game::Game;
 use solver::Cell;
@@ -111,7 +110,11 @@ pub(crate) fn reach<G: Game>(game: &G, cells: &[Cell]) -> Walk
     requires { ⌜ meaning (now game) .size ≤ 4096 ⌝ }
     ensures { λ r. ⌜ Marked (meaning (now (game .entry))) (ranking-in (now (cells .entry))) (r .seen) ⌝ }
 {
-    let mut walk = Walk { queue: [0; 4096], seen: [false; 4096], tail: 0 };
+    let mut walk = Walk {
+        queue: [0; 4096],
+        seen: [false; 4096],
+        tail: 0,
+    };
     begin(game, &mut walk);
     let mut head = 0;
     while head < walk.tail {

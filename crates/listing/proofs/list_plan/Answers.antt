@@ -1,4 +1,4 @@
-use mathlib.Core.Path.{_≡_, ap, _∙_}
+use mathlib.Core.Path.{ap, _∙_}
 use Rattle.solver.specs.Cells.{ranking-in}
 use Rattle.listing.specs.Lines.{text-after}
 use Rattle.listing.specs.Answers.{put-whole}

@@ -13,14 +13,15 @@ pub begin-at-requires : need.begin-at-requires
 begin-at-requires g c κs = record { few = c .pre .few; state = omega (arith, c .size-s-end .ensures, c .loop-s-test .taken); before = c .loop-s .inv .0 }
 
 pub loop-s-again : need.loop-s-again
-loop-s-again g c =
-    (c .begin-at .ensures .walking,
-     λ t lt e. ⊎-elim
-       (λ less. c .begin-at .ensures .later .grows t (c .loop-s .inv .1 t less e))
-       (λ ge.
-         let same : t ≡ c .loop-s .s = omega arith in
-         ap (marked (c .begin-at .last .walk .seen)) same ∙ c .begin-at .ensures .here (ap (g .G·Game .meaning (c .args .game .now) .start) (sym same) ∙ e))
-       (cases-lt t (c .loop-s .s)))
+loop-s-again g c = (
+  c .begin-at .ensures .walking,
+  λ t lt e. ⊎-elim
+      (λ less. c .begin-at .ensures .later .grows t (c .loop-s .inv .1 t less e))
+      (λ ge.
+      let same : t ≡ c .loop-s .s = omega arith in
+      ap (marked (c .begin-at .last .walk .seen)) same ∙ c .begin-at .ensures .here (ap (g .G·Game .meaning (c .args .game .now) .start) (sym same) ∙ e))
+      (cases-lt t (c .loop-s .s)),
+)
 
 pub returns : need.returns
 returns g c =

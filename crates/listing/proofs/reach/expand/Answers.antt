@@ -1,4 +1,4 @@
-use mathlib.Core.Path.{_≡_, sym, ap, _∙_}
+use mathlib.Core.Path.{_≡_, ap, _∙_}
 use mathlib.Core.Logic.{⊎-elim}
 use native.Mathlib.Omega.{arith}
 use Rattle.std.proofs.shelf.Tests.{cases-lt}
@@ -17,15 +17,16 @@ step-requires g c κs = record { few = c .pre .few; from = c .pre .from; before 
 
 pub loop-label-again : need.loop-label-again
 loop-label-again g c =
-    let m = g .G·Game .meaning (c .args .game .now) in
-    (c .step .ensures .walking,
-     later-trans (c .loop-label .inv .1) (c .step .ensures .later),
-     λ x t lt e. ⊎-elim
-       (λ less. c .step .ensures .later .grows t (c .loop-label .inv .2 x t less e))
-       (λ ge.
-         let same : c .loop-label .label ≡ x = omega arith in
-         c .step .ensures .followed t (ap (follow m (ranking-in (c .args .cells .now)) (c .args .s)) same ∙ e))
-       (cases-lt x (c .loop-label .label)))
+    let m = g .G·Game .meaning (c .args .game .now) in (
+      c .step .ensures .walking,
+      later-trans (c .loop-label .inv .1) (c .step .ensures .later),
+      λ x t lt e. ⊎-elim
+          (λ less. c .step .ensures .later .grows t (c .loop-label .inv .2 x t less e))
+          (λ ge.
+          let same : c .loop-label .label ≡ x = omega arith in
+          c .step .ensures .followed t (ap (follow m (ranking-in (c .args .cells .now)) (c .args .s)) same ∙ e))
+          (cases-lt x (c .loop-label .label)),
+    )
 
 pub returns : need.returns
 returns g c =

@@ -1,7 +1,6 @@
 use mathlib.Core.Path.{_≡_, sym, ap, subst, _∙_}
 use mathlib.Core.Logic.{⊎-elim}
 use native.Mathlib.Omega.{arith}
-use Prim.Native.Nat.{_<_, _≤_}
 use lib.ListN.{getD}
 use Rattle.std.specs.declared.option.Option.the-variants.{Some}
 use Rattle.std.proofs.shelf.Tests.{cases-lt}
@@ -36,17 +35,18 @@ loop-head-again g c =
     let m = g .G·Game .meaning (c .args .game .now) in
     let ok = g .G·Game .lawful (c .args .game .now) in
     let ρ = ranking-in (c .args .cells .now) in
-    let later = c .expand .ensures .later in
-    (c .expand .ensures .walking,
-     λ s e. later .grows s (c .loop-head .inv .1 s e),
-     λ j lt. ⊎-elim
-       (λ less. λ l t e. later .grows t (c .loop-head .inv .2 j less l t (subst (λ x. follow m ρ x l ≡ Some t) (later .keeps j (omega (arith, c .loop-head-test .taken))) e)))
-       (λ ge.
-         let same : j ≡ c .loop-head .head = omega arith in
-         subst (Followed m ρ (c .expand .last .walk .seen)) (sym (ap (λ x. getD (c .expand .last .walk .queue) x 0) same ∙ later .keeps (c .loop-head .head) (c .loop-head-test .taken))) (c .expand .ensures .followed))
-       (cases-lt j (c .loop-head .head)),
-     omega (arith, c .loop-head-test .taken, later .longer),
-     walk-few m ok ρ (c .expand .last .walk .queue) (c .expand .last .walk .seen) (c .expand .last .walk .tail) (c .expand .ensures .walking))
+    let later = c .expand .ensures .later in (
+      c .expand .ensures .walking,
+      λ s e. later .grows s (c .loop-head .inv .1 s e),
+      λ j lt. ⊎-elim
+          (λ less. λ l t e. later .grows t (c .loop-head .inv .2 j less l t (subst (λ x. follow m ρ x l ≡ Some t) (later .keeps j (omega (arith, c .loop-head-test .taken))) e)))
+          (λ ge.
+          let same : j ≡ c .loop-head .head = omega arith in
+          subst (Followed m ρ (c .expand .last .walk .seen)) (sym (ap (λ x. getD (c .expand .last .walk .queue) x 0) same ∙ later .keeps (c .loop-head .head) (c .loop-head-test .taken))) (c .expand .ensures .followed))
+          (cases-lt j (c .loop-head .head)),
+      omega (arith, c .loop-head-test .taken, later .longer),
+      walk-few m ok ρ (c .expand .last .walk .queue) (c .expand .last .walk .seen) (c .expand .last .walk .tail) (c .expand .ensures .walking),
+    )
 
 pub returns : need.returns
 returns g c =

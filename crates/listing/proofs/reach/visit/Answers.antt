@@ -1,7 +1,7 @@
 use native.Mathlib.Omega.{arith}
 use Prim.Native.Nat.{_<_}
 use lib.ListN.{length}
-use Rattle.listing.proofs.Walking.{mark-here, pushed-later, pushed, later-refl}
+use Rattle.listing.proofs.Walking.{mark-here, pushed-later, pushed}
 use Rattle.listing.proofs.reach.visit.Needs as need
 
 pub returns : need.returns
