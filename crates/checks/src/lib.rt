@@ -1,11 +1,15 @@
 // What plan checks of a game before it works out ranks.
 ghost use mathlib.Core.Path.{_≡_};
-ghost use Rattle.std.specs.Options.{isSome};
+ghost use mathlib.Core.Bool.{not, _||_};
+ghost use lib.Dec.{eqb, ltb};
 ghost use Rattle.game.specs.Meaning.{feasible};
 ghost use Rattle.game.specs.Search.{some-below, first-below, first-of};
 ghost use Rattle.law.specs.Checks.{keeps-turn, state-fault, first-fault};
 use game::Game;
 use law::Fault;
+
+// The most states of a game that a watch plans over.
+const MOST: usize = 4096;
 
 // Whether the label is feasible in the state.
 fn is_feasible<G: Game>(game: &G, s: usize, l: u8) -> bool
@@ -88,15 +92,19 @@ fn states_fault<G: Game>(game: &G) -> Option<Fault>
     None
 }
 
+// Whether the game has a state, and at most as many as a watch has cells.
+fn has_size<G: Game>(game: &G) -> bool
+    ensures { λ r. ⌜ r ≡ not (eqb (meaning (now (game .entry)) .size) 0 || ltb 4096 (meaning (now (game .entry)) .size)) ⌝ }
+{
+    let n = game.size();
+    n != 0 && n <= MOST
+}
+
 // The fault that plan finds first: the size, no start, then state by state.
 pub fn find_fault<G: Game>(game: &G) -> Option<Fault>
     ensures { λ r. ⌜ r ≡ first-fault (meaning (now (game .entry))) ⌝ }
 {
-    let n = game.size();
-    if n == 0 {
-        return Some(Fault::Size);
-    }
-    if n > 4096 {
+    if !has_size(game) {
         return Some(Fault::Size);
     }
     if !has_start(game) {

@@ -1,8 +1,9 @@
 -- What the cells of a table say of a game's states.
 use mathlib.Core.Path.{_≡_}
-use mathlib.Core.Bool.{Bool, true, false}
+use mathlib.Core.Bool.{Bool, true, false, _&&_}
 use mathlib.Core.List.{List}
-use Prim.Native.Nat.{ℕ, _≤_}
+use Prim.Native.Nat.{ℕ}
+use lib.Dec.{leb}
 use lib.ListN.{length, getD}
 use Rattle.std.specs.declared.option.Option.{Option}
 use Rattle.std.specs.declared.option.Option.the-variants.{None, Some}
@@ -26,7 +27,8 @@ ranking-in cells = record { rank = λ s. cell-at cells s .rank; choice = λ s. c
 abbrev pub Solved : Meaning → Bars → List Cell → Type 0
 Solved m b cells = (s : ℕ) → cell-at cells s ≡ record { rank = rank m b s; choice = choice m b s }
 
--- what solving leaves: the cells solved, or, where the game is too large for them or has over 4,096 states, as they were
+-- What solving leaves: where the game has at most 4,096 states and a cell for each, the cells solved; else as they were.
 pub record Solving (m : Meaning) (b : Bars) (before : List Cell) (fits : Bool) (after : List Cell) : Type 0 where
-  pub solved : m .size ≤ length before → m .size ≤ 4096 → (fits ≡ true) × Solved m b after
+  pub answer : fits ≡ (leb (m .size) 4096 && leb (m .size) (length before))
+  pub solved : fits ≡ true → Solved m b after
   pub too-large : fits ≡ false → after ≡ before

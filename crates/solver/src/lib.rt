@@ -2,7 +2,8 @@
 // layer by layer. Each label of each state is asked for a small constant number of times, however deep the game is.
 // Scratch memory: 1.1 MB on the stack, no heap.
 ghost use mathlib.Core.Path.{_≡_};
-ghost use mathlib.Core.Bool.{true, false};
+ghost use mathlib.Core.Bool.{true, false, _&&_};
+ghost use lib.Dec.{leb};
 ghost use Prim.Native.Nat.{ℕ, _<_, _≤_};
 ghost use lib.ListN.{length, getD};
 ghost use Rattle.std.specs.Options.{isSome};
@@ -28,8 +29,8 @@ pub struct Cell {
     pub choice: Option<u8>,
 }
 
-// A cell that says nothing.
-pub const EMPTY: Cell = Cell { rank: None, choice: None };
+// The most states of a game that are worked out.
+const MOST: usize = 4096;
 
 // The cell of a state; one beyond the table is empty.
 pub fn cell_at(cells: &[Cell], s: usize) -> Cell
@@ -88,15 +89,23 @@ fn fill<G: Game>(game: &G, bars: u64, cells: &mut [Cell])
     }
 }
 
+// Whether a game has at most 4,096 states, and not more than there are cells.
+fn has_room<G: Game>(game: &G, cells: usize) -> bool
+    ensures value { λ r. ⌜ r ≡ (leb (meaning (now (game .entry)) .size) 4096 && leb (meaning (now (game .entry)) .size) cells) ⌝ }
+    ensures few { λ r. ⌜ (r ≡ true → (meaning (now (game .entry)) .size ≤ 4096) × (meaning (now (game .entry)) .size ≤ cells)) ⌝ }
+{
+    let n = game.size();
+    n <= MOST && n <= cells
+}
+
 // Gives every cell the rank and the choice of its state under the bars, and answers true; or answers false, and leaves
 // the cells as they are, where the game has more than 4,096 states or more than there are cells.
 pub fn solve<G: Game>(game: &G, bars: u64, cells: &mut [Cell]) -> bool
     ensures { λ r. ⌜ Solving (meaning (now (game .entry))) (has-bit bars) (now (cells .entry)) r (now (cells .exit)) ⌝ }
 {
-    let n = game.size();
-    if n > 4096 || n > cells.len() {
-        return false;
+    let fits = has_room(game, cells.len());
+    if fits {
+        fill(game, bars, cells);
     }
-    fill(game, bars, cells);
-    true
+    fits
 }

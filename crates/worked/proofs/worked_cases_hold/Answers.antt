@@ -1,7 +1,7 @@
 use mathlib.Core.Path.{_≡_, refl, ap, _∙_}
 use mathlib.Core.List.{List, [], _++_}
 use Prim.Native.Nat.{ℕ, _<_}
-use native.Mathlib.Omega.{arith}
+use borrow.Author.Needs.{needs}
 use lib.Chars.{codes}
 use lib.Dec.{lit<, lit≤}
 use Rattle.std.specs.Written.{decimal}
@@ -10,9 +10,8 @@ use Rattle.game.specs.Ranks.{within, rank, choice, witness}
 use Rattle.law.specs.Checks.{first-fault}
 use Rattle.law.specs.Law.{answer}
 use Rattle.listing.specs.Reach.{reached-within, reached}
-use Rattle.text.specs.Lines.{count-line, line}
-use Rattle.planner.specs.Printed.{bytes-text, printed, refusal-line}
-use Rattle.worked.specs.Cases.{smallest, cut-short}
+use Rattle.planner.specs.Printed.{bytes-text, printed}
+use Rattle.worked.specs.Cases.{smallest, cut-short, WorkedCases}
 use Rattle.worked.proofs.worked_cases_hold.Needs as need
 
 held-zero : printed smallest ≡ codes "HELD 0\n"
@@ -28,9 +27,9 @@ refused-two =
     ap (λ ds. codes "REFUSED " ++ (ds ++ codes " " ++ ds ++ codes " " ++ decimal 11 ++ codes "\n")) (decimal-digit 2 (lit< tt))
     ∙ ap (λ ds. codes "REFUSED 2 2 " ++ (ds ++ codes "\n")) eleven
 
-pub returns : need.returns
+worked : WorkedCases
 unfolding within rank choice witness first-fault answer
-returns c = record {
+worked = record {
   house-ratings = refl;
   house-without-three = refl;
   house-without-one = refl;
@@ -40,3 +39,6 @@ returns c = record {
   smallest-printed = held-zero;
   cut-printed = refused-two;
 }
+
+pub returns : need.returns
+returns c = record { value = search needs; cases = worked }

@@ -3,6 +3,7 @@ use native.Mathlib.Omega.{arith}
 use borrow.Author.Needs.{needs}
 use Prim.Native.Nat.{_≤_}
 use lib.ListN.{length}
+use Rattle.std.proofs.shelf.Tests.{and-from, le-leb}
 use Rattle.std.specs.declared.option.Option.the-variants.{None, Some}
 use Rattle.std.specs.declared.result.Result.{Result}
 use Rattle.std.specs.declared.result.Result.the-variants.{Ok, Err}
@@ -43,7 +44,7 @@ returns-in-None g c =
     let few : m .size ≤ 4096 = no-fault-sound m ok none .few-states in
     let long : length (d .table .cells) ≡ 4096 = search needs in
     let t : Table = record { cells = c .solve .last .cells } in
-    let solved : Solved m (bars-of d) (t .cells) = c .solve .ensures .solved (omega arith) few .1 in
+    let solved : Solved m (bars-of d) (t .cells) = c .solve .ensures .solved (c .solve .ensures .answer ∙ and-from _ _ (le-leb (m .size) 4096 few) (le-leb (m .size) (length (d .table .cells)) (omega arith))) in
     record {
       same = refl;
       value = ap Ok (c .verdict .ensures) ∙ sym (ap (λ o. plan-answer o (plan-verdict m (ranking-in (t .cells) .rank))) none);
