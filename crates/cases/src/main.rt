@@ -1,0 +1,88 @@
+// Stored sheets, each answered as planlist answers it.
+use std::error::AnyError;
+use std::fs;
+use std::io::Write;
+
+// Answers over this length are told by their first line, their length and how many lines they have.
+const LONG: usize = 200;
+
+fn is_line_feed(b: u8) -> bool {
+    b == b'\n'
+}
+
+fn count_lines(text: &[u8]) -> usize {
+    let mut count: usize = 0;
+    for b in text {
+        if is_line_feed(*b) {
+            count = count.saturating_add(1);
+        }
+    }
+    count
+}
+
+fn first_line(text: &[u8]) -> &[u8] {
+    for (i, b) in text.iter().enumerate() {
+        if is_line_feed(*b) {
+            return &text[0..i];
+        }
+    }
+    text
+}
+
+fn tell(rt: &LibcRuntime, name: &str, text: &[u8]) -> Result<(), AnyError> {
+    print!(rt, "{name}: ")?;
+    if text.len() <= LONG {
+        rt.stdout().write_all(text)?;
+        return Ok(());
+    }
+    rt.stdout().write_all(first_line(text))?;
+    let length = text.len();
+    let lines = count_lines(text);
+    println!(rt, " .. {length} bytes, {lines} lines")?;
+    Ok(())
+}
+
+fn answer(rt: &LibcRuntime, name: &str) -> Result<(), AnyError> {
+    let path = format!(rt.alloc(), "{name}.sheet")?;
+    let input = fs::read(rt, path.as_str())?;
+    let mut out = vec![in rt.alloc(); 0u8; planner::ROOM]?;
+    let length = planner::respond(input.as_slice(), out.as_mut_slice()).unwrap_or(0);
+    let length = length.min(out.len());
+    tell(rt, name, &out[0..length])
+}
+
+fn is_refusal(text: &[u8]) -> bool {
+    count_lines(text) == 1 && text.len() > 7 && &text[0..7] == b"REFUSED"
+}
+
+// A sheet that is cut anywhere is refused in one line.
+fn cut_everywhere(rt: &LibcRuntime, name: &str) -> Result<(), AnyError> {
+    let path = format!(rt.alloc(), "{name}.sheet")?;
+    let input = fs::read(rt, path.as_str())?;
+    let whole = input.as_slice();
+    let mut out = vec![in rt.alloc(); 0u8; planner::ROOM]?;
+    let mut refused: usize = 0;
+    for end in 0..whole.len() {
+        let length = planner::respond(&whole[0..end], out.as_mut_slice()).unwrap_or(0);
+        let length = length.min(out.len());
+        if is_refusal(&out[0..length]) {
+            refused = refused.saturating_add(1);
+        }
+    }
+    let cuts = whole.len();
+    println!(rt, "cuts of {name}: {refused} of {cuts} refused in one line")?;
+    Ok(())
+}
+
+fn main(rt: LibcRuntime) -> Result<(), AnyError> {
+    for name in ["house", "one", "one-cut", "one-flags", "empty", "byte", "noise"] {
+        answer(&rt, name)?;
+    }
+    for name in ["named", "long-name", "high-label", "large", "lost", "public-start", "no-start"] {
+        answer(&rt, name)?;
+    }
+    for name in ["keeps-turn", "falling", "wrong-count", "left-over", "limit", "chain"] {
+        answer(&rt, name)?;
+    }
+    cut_everywhere(&rt, "house")
+}

@@ -1,0 +1,2 @@
+pub mod Corridors
+pub mod CorridorLaws
