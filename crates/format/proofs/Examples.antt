@@ -1,3 +1,5 @@
+-- Small sheets read and written, by computation.
+
 use Prim.Native.Nat.{ℕ}
 use lib.ListN.{replicate}
 use mathlib.Core.Path.{_≡_, refl}

@@ -1,3 +1,5 @@
+-- A field stands in the bytes exactly if it is read.
+
 use Prim.Native.Nat.{ℕ, zero, suc, _+_, _-_, _*_, _/_, _%_, _≤_, _<_}
 use native.Mathlib.Omega.{arith}
 use native.Mathlib.Nat.{add-mul-mod-self-left, add-mul-div-left, mod-eq-of-lt, div-eq-of-lt, mod-add-div, mod-lt, div-lt-iff-lt-mul}

@@ -1,3 +1,5 @@
+-- Moves in order are the moves of one source, and those of higher sources behind them.
+
 use Prim.Native.Nat.{ℕ, zero, suc, _+_, _-_, _<_, _≤_}
 use native.Mathlib.Omega.{arith}
 use lib.Dec.{ltb, leb, eqb}

@@ -9,6 +9,7 @@ use mathlib.Core.Logic.{_⊎_, inl, inr, ⊎-elim}
 use mathlib.Core.Path.{_≡_, refl, sym, ap, subst, _∙_}
 use mathlib.Core.List.{List, [], _∷_, _++_, append-assoc}
 use Rattle.std.specs.shelf.Lists.{All, map}
+use Rattle.std.specs.Vec.{made}
 use Rattle.std.specs.declared.option.Option.{Option}
 use Rattle.std.specs.declared.option.Option.the-variants.{Some, None}
 use Rattle.std.specs.declared.result.Result.{Result}
@@ -190,6 +191,10 @@ sized-judges rows ms names out false h =
     (λ (t : leb 1 (length rows) ≡ false). inl (leb-false 1 (length rows) t))
     (λ (t : leb (length rows) 4096 ≡ false). inr (leb-false (length rows) 4096 t))
     (and-cases (leb 1 (length rows)) (leb (length rows) 4096) h)
+
+pub write-inside : (rows : List Row) (ms : List Move) (names out : List ℕ) (r : Result ℕ WriteFault) (after : List ℕ) → WriteExactly rows ms names out (r, after) → made r (λ len. len ≤ length out)
+write-inside rows ms names out (Ok len) after e = e .0 .3
+write-inside rows ms names out (Err f) after e = tt
 
 pub write-exactly : (rows : List Row) (ms : List Move) (names out : List ℕ) → WriteExactly rows ms names out (write-result rows ms names out)
 write-exactly rows ms names out = (sized-judges rows ms names out (leb 1 (length rows) && leb (length rows) 4096) refl, given-written rows ms names out)

@@ -1,3 +1,5 @@
+-- Reading and writing undo one another, and no two sheets have the same bytes.
+
 use Prim.Native.Nat.{ℕ, zero, suc, _+_, _-_, _<_, _≤_}
 use native.Mathlib.Omega.{arith}
 use lib.Dec.{ltb, leb, eqb}
@@ -45,6 +47,13 @@ read-encodes n m bs (Err e) h = tt
 
 pub exactly : (n m : ℕ) (bs : List ℕ) → ReadExactly n m bs (read-result n m bs)
 exactly n m bs = (read-encodes n m bs (reading n m bs) refl, encoded-loaded n m bs)
+
+pub read-inside : (n m : ℕ) (bs : List ℕ) (r : Result Counts SheetFault) (rows : List Row) (ms : List Move) → ReadExactly n m bs (r, rows, ms) → made r (λ c. (c .states ≤ n) × (c .moves ≤ m))
+read-inside n m bs (Ok c) rows ms e =
+    let p = e .0 in
+    let q : c ≡ record { states = length (p .0 .states); moves = length (p .0 .moves) } = ok-same _ _ (ap (λ (t : Result Counts SheetFault × List Row × List Move). t .0) (p .2)) in
+    subst (λ (x : Counts). (x .states ≤ n) × (x .moves ≤ m)) (sym q) (p .1 .2, p .1 .3)
+read-inside n m bs (Err f) rows ms e = tt
 
 -- both sheets are what the bytes give, once the tables are long enough
 pub unique : (bs : List ℕ) → Unique bs

@@ -1,3 +1,5 @@
+-- The tables that the reader fills are those of the sheet.
+
 use Prim.Native.Nat.{ℕ, zero, suc, _+_, _-_, _<_, _≤_}
 use native.Mathlib.Omega.{arith}
 use lib.Dec.{ltb, leb, eqb}

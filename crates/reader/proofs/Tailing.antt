@@ -1,3 +1,5 @@
+-- One move more, or the end.
+
 use Prim.Native.Nat.{ℕ, zero, suc, _+_, _-_, _<_, _≤_}
 use lib.ListN.{length, set}
 use mathlib.Core.Path.{_≡_, refl, sym, ap, _∙_}

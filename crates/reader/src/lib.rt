@@ -1,8 +1,7 @@
 // The reader of sheets: bytes into two tables that the caller lends.
 ghost use mathlib.Core.Path.{_≡_};
-ghost use mathlib.Core.List.{List, _∷_, []};
-ghost use Prim.Native.Nat.{ℕ, _+_, _-_, _*_, _/_, _%_, _<_, _≤_};
-ghost use lib.ListN.{length, getD, set, take, drop, replicate};
+ghost use Prim.Native.Nat.{_+_, _<_, _≤_};
+ghost use lib.ListN.{length, take, drop, replicate};
 ghost use Rattle.std.specs.Vec.{made};
 ghost use Rattle.std.specs.shelf.Lists.{sumBy};
 ghost use Rattle.std.specs.declared.option.Option.the-variants.{None};
@@ -11,12 +10,12 @@ ghost use Rattle.format.specs.Tables.{zero-row, zero-move};
 ghost use Rattle.format.specs.Reading.{head-size, state-row, states-from, tail-at, moves-from, read-result};
 ghost use Rattle.format.specs.Laws.{ReadExactly, Unique, WritesBack};
 ghost use Rattle.reader.specs.Stored.{shown-filled, stored, shown-stored, source-below, count-of, numbered, tables-after, shown-all};
+use format::Arc;
+use format::Counts;
 use records::Expect;
 use records::Record;
 use records::SheetFault;
 use records::SheetFromRecord;
-use format::Arc;
-use format::Counts;
 use sheet::Move;
 use sheet::Row;
 
@@ -133,7 +132,10 @@ fn read_tail(
                 return Err(SheetFault::Count { index, offset: at });
             }
             if next != bytes.len() {
-                return Err(SheetFault::Excess { index, offset: next });
+                return Err(SheetFault::Excess {
+                    index,
+                    offset: next,
+                });
             }
             Ok(None)
         }
@@ -209,7 +211,10 @@ fn read_all(bytes: &[u8], rows: &mut [Row], moves: &mut [Move]) -> Result<Counts
 {
     let (size, start) = read_head(bytes)?;
     if rows.len() < size as usize {
-        return Err(SheetFault::Room { index: 0, offset: 0 });
+        return Err(SheetFault::Room {
+            index: 0,
+            offset: 0,
+        });
     }
     let at = read_states(bytes, size as usize, start, rows)?;
     let count = read_moves(bytes, at, size, rows, moves)?;
@@ -243,6 +248,7 @@ fn read_tables(bytes: &[u8], rows: &mut [Row], moves: &mut [Move]) -> Result<Cou
 pub fn read(bytes: &[u8], rows: &mut [Row], moves: &mut [Move]) -> Result<Counts, SheetFault>
     ensures value { λ r. ⌜ (r, now (rows .exit), now (moves .exit)) ≡ read-result (length (now (rows .entry))) (length (now (moves .entry))) (now (bytes .entry)) ⌝ }
     ensures exactly { λ r. ⌜ ReadExactly (length (now (rows .entry))) (length (now (moves .entry))) (now (bytes .entry)) (r, now (rows .exit), now (moves .exit)) ⌝ }
+    ensures inside { λ r. ⌜ made r (λ c. (c .states ≤ length (now (rows .entry))) × (c .moves ≤ length (now (moves .entry)))) ⌝ }
     ensures unique { λ _. ⌜ Unique (now (bytes .entry)) ⌝ }
     ensures restored { λ r. ⌜ WritesBack (now (bytes .entry)) (r, now (rows .exit), now (moves .exit)) ⌝ }
 {

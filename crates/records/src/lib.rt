@@ -1,14 +1,9 @@
 // The records of a sheet, each read from the input with its fields taken and judged one by one,
 // and the faults of a reading in three layers.
 ghost use mathlib.Core.Path.{_≡_};
-ghost use mathlib.Core.List.{List, _∷_, []};
-ghost use Prim.Native.Nat.{ℕ, _+_, _-_, _*_, _/_, _%_, _<_, _≤_};
-ghost use lib.Chars.{codes};
-ghost use lib.Dec.{leb, eqb};
-ghost use lib.Bits.{bitAnd};
-ghost use lib.ListN.{length, getD, set, take, drop};
+ghost use Prim.Native.Nat.{_+_, _<_, _≤_};
+ghost use lib.ListN.{length};
 ghost use Rattle.std.specs.Vec.{made};
-ghost use Rattle.std.specs.shelf.Text.{sameBytes};
 ghost use Rattle.records.specs.Faults.{number-of, layer-of, index-of, offset-of};
 ghost use Rattle.records.specs.Fields.{byte-at, u16-at, u32-at, part-at, shown-part, judged, within, below, are-flags, is-printable, all-printable};
 ghost use Rattle.records.specs.Records.{head-at, state-at, move-at, end-at, record-at, shown-read};
@@ -17,8 +12,11 @@ ghost use Rattle.records.specs.declared.SheetFault.the-variants.{Record};
 
 // The marks that records begin with.
 pub const HEAD_MARK: &[u8; 2] = b"SH";
+
 pub const STATE_MARK: &[u8; 2] = b"ST";
+
 pub const MOVE_MARK: &[u8; 2] = b"MV";
+
 pub const END_MARK: &[u8; 2] = b"ZZ";
 
 // The bits that a state's flags may have.
@@ -301,7 +299,12 @@ pub enum Expect {
     Tail { size: u16 },
 }
 
-fn head<'a>(bytes: &'a [u8], at: usize, index: usize) -> Result<(Record<'a>, usize), RecordFault>
+// The first record, whose mark is at `at`: version and number of states.
+fn head_record<'a>(
+    bytes: &'a [u8],
+    at: usize,
+    index: usize,
+) -> Result<(Record<'a>, usize), RecordFault>
     requires { ⌜ at + 2 ≤ length (now bytes) ⌝ }
     ensures value { λ r. ⌜ shown-read r ≡ head-at (now (bytes .entry)) at index ⌝ }
     ensures inside { λ r. ⌜ made r (λ p. (at < p .1) × (p .1 ≤ length (now (bytes .entry)))) ⌝ }
@@ -311,7 +314,12 @@ fn head<'a>(bytes: &'a [u8], at: usize, index: usize) -> Result<(Record<'a>, usi
     Ok((Record::Head { size }, at + 5))
 }
 
-fn state<'a>(bytes: &'a [u8], at: usize, index: usize) -> Result<(Record<'a>, usize), RecordFault>
+// A state's record, whose mark is at `at`: flags, length of the name, name.
+fn state_record<'a>(
+    bytes: &'a [u8],
+    at: usize,
+    index: usize,
+) -> Result<(Record<'a>, usize), RecordFault>
     requires { ⌜ at + 2 ≤ length (now bytes) ⌝ }
     ensures value { λ r. ⌜ shown-read r ≡ state-at (now (bytes .entry)) at index ⌝ }
     ensures inside { λ r. ⌜ made r (λ p. (at < p .1) × (p .1 ≤ length (now (bytes .entry)))) ⌝ }
@@ -323,7 +331,8 @@ fn state<'a>(bytes: &'a [u8], at: usize, index: usize) -> Result<(Record<'a>, us
     Ok((Record::State { flags, place, name }, place + len as usize))
 }
 
-fn arc<'a>(
+// A move's record, whose mark is at `at`: source, label, target.
+fn move_record<'a>(
     bytes: &'a [u8],
     at: usize,
     index: usize,
@@ -346,7 +355,12 @@ fn arc<'a>(
     ))
 }
 
-fn end<'a>(bytes: &'a [u8], at: usize, index: usize) -> Result<(Record<'a>, usize), RecordFault>
+// The last record, whose mark is at `at`: the number of moves, which may be any.
+fn end_record<'a>(
+    bytes: &'a [u8],
+    at: usize,
+    index: usize,
+) -> Result<(Record<'a>, usize), RecordFault>
     requires { ⌜ at + 2 ≤ length (now bytes) ⌝ }
     ensures value { λ r. ⌜ shown-read r ≡ end-at (now (bytes .entry)) at index ⌝ }
     ensures inside { λ r. ⌜ made r (λ p. (at < p .1) × (p .1 ≤ length (now (bytes .entry)))) ⌝ }
@@ -367,10 +381,10 @@ pub fn take_record<'a>(
 {
     let mark = part(bytes, at, 2, index)?;
     match expect {
-        Expect::Head if mark == HEAD_MARK => head(bytes, at, index),
-        Expect::State if mark == STATE_MARK => state(bytes, at, index),
-        Expect::Tail { size } if mark == MOVE_MARK => arc(bytes, at, index, size),
-        Expect::Tail { .. } if mark == END_MARK => end(bytes, at, index),
+        Expect::Head if mark == HEAD_MARK => head_record(bytes, at, index),
+        Expect::State if mark == STATE_MARK => state_record(bytes, at, index),
+        Expect::Tail { size } if mark == MOVE_MARK => move_record(bytes, at, index, size),
+        Expect::Tail { .. } if mark == END_MARK => end_record(bytes, at, index),
         _ => Err(RecordFault::Mark { index, offset: at }),
     }
 }

@@ -1,3 +1,5 @@
+-- Lengths of a sheet's parts, and sound tables row by row.
+
 use Prim.Native.Nat.{ℕ, _+_, _-_, _*_, _<_, _≤_}
 use native.Mathlib.Omega.{arith}
 use lib.Dec.{leb, ltb}

@@ -1,8 +1,8 @@
 // The writer of sheets: two tables and the bytes that hold the names into an output that the caller lends.
 ghost use mathlib.Core.Path.{_≡_};
-ghost use mathlib.Core.List.{List, _∷_, [], _++_};
-ghost use Prim.Native.Nat.{ℕ, _+_, _-_, _*_, _/_, _%_, _<_, _≤_};
-ghost use lib.ListN.{length, getD, set, take, drop};
+ghost use Prim.Native.Nat.{_+_, _≤_};
+ghost use lib.ListN.{length, take, drop};
+ghost use Rattle.std.specs.Vec.{made};
 ghost use Rattle.std.specs.shelf.Lists.{All};
 ghost use Rattle.std.specs.declared.option.Option.the-variants.{None};
 ghost use Rattle.format.specs.Format.{head-bytes, state-bytes, move-bytes, end-bytes, encode};
@@ -11,9 +11,9 @@ ghost use Rattle.format.specs.Writing.{moves-sound, name-sound, moves-next, row
 ghost use Rattle.format.specs.Judgement.{WriteExactly};
 ghost use Rattle.format.specs.Laws.{Restores};
 ghost use Rattle.writer.specs.Parts.{state-of, rows-bytes, moves-bytes, arcs-bytes, Named, verdict, move-sound};
+use format::WriteFault;
 use sheet::Move;
 use sheet::Row;
-use format::WriteFault;
 
 // The first record, at the front of `out`.
 fn write_head(out: &mut [u8], size: u16)
@@ -279,6 +279,7 @@ pub fn write(
 ) -> Result<usize, WriteFault>
     ensures value { λ r. ⌜ (r, now (out .exit)) ≡ write-result (now (rows .entry)) (now (moves .entry)) (now (names .entry)) (now (out .entry)) ⌝ }
     ensures exactly { λ r. ⌜ WriteExactly (now (rows .entry)) (now (moves .entry)) (now (names .entry)) (now (out .entry)) (r, now (out .exit)) ⌝ }
+    ensures inside { λ r. ⌜ made r (λ len. len ≤ length (now (out .entry))) ⌝ }
     ensures restored { λ r. ⌜ Restores (now (rows .entry)) (now (moves .entry)) (now (names .entry)) (r, now (out .exit)) ⌝ }
 {
     write_tables(rows, moves, names, out)
