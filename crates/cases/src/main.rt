@@ -73,21 +73,34 @@ fn cut_everywhere(rt: &LibcRuntime, name: &str) -> Result<(), AnyError> {
         }
     }
     let cuts = whole.len();
-    println!(rt, "cuts of {name}: {refused} of {cuts} refused in one line")?;
+    println!(
+        rt,
+        "cuts of {name}: {refused} of {cuts} refused in one line"
+    )?;
     Ok(())
 }
 
 // Reads a sheet, writes it again, and answers the bytes written.
 fn rewritten(heap: Global, bytes: &[u8]) -> Result<Vec<u8>, AnyError> {
-    let mut rows = vec![in heap; Row { flags: 0, place: 0, len: 0, first: 0, count: 0 }; 4096]?;
-    let mut moves = vec![in heap; Move { label: 0, target: 0 }; 8192]?;
+    let mut rows = vec![in heap; Row {
+        flags: 0,
+        place: 0,
+        len: 0,
+        first: 0,
+        count: 0
+    }; 4096]?;
+    let mut moves = vec![in heap; Move {
+        label: 0,
+        target: 0
+    }; 8192]?;
     let mut out = vec![in heap; 0u8; 65536]?;
     let Ok(counts) = reader::read(bytes, rows.as_mut_slice(), moves.as_mut_slice()) else {
         return Err("not read".into());
     };
     let states = (counts.states as usize).min(rows.len());
     let arcs = counts.moves.min(moves.len());
-    let Ok(length) = writer::write(&rows[0..states], &moves[0..arcs], bytes, out.as_mut_slice()) else {
+    let Ok(length) = writer::write(&rows[0..states], &moves[0..arcs], bytes, out.as_mut_slice())
+    else {
         return Err("not written".into());
     };
     out.truncate(length);
@@ -101,7 +114,11 @@ fn round_trip(rt: &LibcRuntime, name: &str) -> Result<(), AnyError> {
     let length = input.len().min(65536);
     let bytes = &input.as_slice()[0..length];
     let written = rewritten(rt.alloc(), bytes)?;
-    let word = if written.as_slice() == bytes { "the same" } else { "other" };
+    let word = if written.as_slice() == bytes {
+        "the same"
+    } else {
+        "other"
+    };
     println!(rt, "{name} written again: {word} {length} bytes")?;
     let mut out = vec![in rt.alloc(); 0u8; planner::ROOM]?;
     let end = planner::respond(written.as_slice(), out.as_mut_slice()).unwrap_or(0);
@@ -110,13 +127,36 @@ fn round_trip(rt: &LibcRuntime, name: &str) -> Result<(), AnyError> {
 }
 
 fn main(rt: LibcRuntime) -> Result<(), AnyError> {
-    for name in ["house", "one", "one-cut", "one-flags", "empty", "byte", "noise"] {
+    for name in [
+        "house",
+        "one",
+        "one-cut",
+        "one-flags",
+        "empty",
+        "byte",
+        "noise",
+    ] {
         answer(&rt, name)?;
     }
-    for name in ["named", "long-name", "high-label", "large", "lost", "public-start", "no-start"] {
+    for name in [
+        "named",
+        "long-name",
+        "high-label",
+        "large",
+        "lost",
+        "public-start",
+        "no-start",
+    ] {
         answer(&rt, name)?;
     }
-    for name in ["keeps-turn", "falling", "wrong-count", "left-over", "limit", "chain"] {
+    for name in [
+        "keeps-turn",
+        "falling",
+        "wrong-count",
+        "left-over",
+        "limit",
+        "chain",
+    ] {
         answer(&rt, name)?;
     }
     cut_everywhere(&rt, "house")?;

@@ -32,21 +32,21 @@ module _ (m : Meaning) (ok : Lawful m) (b : Bars) where
   layer-of p s e =
       ⊎-elim l-done
       (λ f.
-        let parts = and-parts (not (m .end s)) _ f in
-        let on = not-true (m .end s) (parts .0) in
-        ⊎-elim
-        (λ pub′.
-          let both = and-parts _ _ (sym (cond-true (m .public s) (public-must m p s) (kiosk-can m b p s) pub′) ∙ parts .1) in
-          let any = some-decides (λ l. isSome (m .next s l)) (m .ceiling) .0 (both .0) in
-          let to = is-some (m .next s (any .0)) (any .2) in
-          l-public pub′ (any .0) (to .0) (on, to .1)
-          (λ l t st. ap (λ o. none-or o p) (sym (st .1)) ∙ all-decides (λ l. none-or (m .next s l) p) (m .ceiling) .0 (both .1) l (label-low m ok s l t (st .1))))
-        (λ kio.
-          let any = some-decides (λ l. not (b l) && leads-to (m .next s l) p) (m .ceiling) .0 (sym (cond-false (m .public s) (public-must m p s) (kiosk-can m b p s) kio) ∙ parts .1) in
-          let both = and-parts _ _ (any .2) in
-          let to = reaches-to (m .next s (any .0)) p (both .1) in
-          l-kiosk kio (any .0) (to .0) (not-true _ (both .0)) (on, to .1) (to .2))
-        (cases-bool (m .public s)))
+      let parts = and-parts (not (m .end s)) _ f in
+      let on = not-true (m .end s) (parts .0) in
+      ⊎-elim
+      (λ pub′.
+      let both = and-parts _ _ (sym (cond-true (m .public s) (public-must m p s) (kiosk-can m b p s) pub′) ∙ parts .1) in
+      let any = some-decides (λ l. isSome (m .next s l)) (m .ceiling) .0 (both .0) in
+      let to = is-some (m .next s (any .0)) (any .2) in
+      l-public pub′ (any .0) (to .0) (on, to .1)
+      (λ l t st. ap (λ o. none-or o p) (sym (st .1)) ∙ all-decides (λ l. none-or (m .next s l) p) (m .ceiling) .0 (both .1) l (label-low m ok s l t (st .1))))
+      (λ kio.
+      let any = some-decides (λ l. not (b l) && leads-to (m .next s l) p) (m .ceiling) .0 (sym (cond-false (m .public s) (public-must m p s) (kiosk-can m b p s) kio) ∙ parts .1) in
+      let both = and-parts _ _ (any .2) in
+      let to = reaches-to (m .next s (any .0)) p (both .1) in
+      l-kiosk kio (any .0) (to .0) (not-true _ (both .0)) (on, to .1) (to .2))
+      (cases-bool (m .public s)))
       (or-cases (done m s) _ e)
 
   pub layer-to : (p : ℕ → Bool) (s : ℕ) → Layer m b p s → layer m b p s ≡ true
@@ -105,12 +105,16 @@ module _ (m : Meaning) (ok : Lawful m) (b : Bars) where
       ⊎-elim
       (λ old. inl (old .0, omega (arith, old .1), old .2))
       (λ big. ⊎-elim
-        (λ more. inr (omega arith))
-        (λ same. inl (j, omega arith, λ s e. ⊎-elim
-          (λ in′. count-same (within m b j) (within m b (suc j)) (m .size) (within-more j) same s in′ e)
-          (λ out. absurd (nowhere (within m b j) s out (within-of j s e)))
-          (cases-lt s (m .size))))
-        (cases-lt (count-below (within m b j) (m .size)) (count-below (within m b (suc j)) (m .size))))
+      (λ more. inr (omega arith))
+      (λ same. inl (
+        j,
+        omega arith,
+        λ s e. ⊎-elim
+            (λ in′. count-same (within m b j) (within m b (suc j)) (m .size) (within-more j) same s in′ e)
+            (λ out. absurd (nowhere (within m b j) s out (within-of j s e)))
+            (cases-lt s (m .size)),
+      ))
+      (cases-lt (count-below (within m b j) (m .size)) (count-below (within m b (suc j)) (m .size))))
       (grows j)
 
   settled : (i : ℕ) × (i < suc (m .size)) × Stable i

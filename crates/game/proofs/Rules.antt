@@ -62,6 +62,7 @@ module _ (m : Meaning) (ok : Lawful m) (b : Bars) where
     where
       fair : (l t p : ℕ) → b l ≡ false → Step m s l t → rank m b t ≡ Some p → q ≤ p
       fair l t p free st f = let got = kiosk-to s l t p kio free st f in omega (arith, same-some (got .1) e, got .2)
+
       go : Layer m b (within m b q) s → (q′ : ℕ) × (suc q ≡ suc q′) × ((l : ℕ) × (t : ℕ) × (b l ≡ false) × (Step m s l t) × (rank m b t ≡ Some q′)) × ((l t p : ℕ) → b l ≡ false → Step m s l t → rank m b t ≡ Some p → q′ ≤ p)
       go (l-done d) = absurd (both-ways _ nd d)
       go (l-public pub′ l t st each) = absurd (both-ways _ kio pub′)
@@ -76,6 +77,7 @@ module _ (m : Meaning) (ok : Lawful m) (b : Bars) where
     where
       test : ℕ → Bool
       test l = leads-to (m .next s l) (λ t. is (rank m b t) q)
+
       go : Layer m b (within m b q) s → (q′ : ℕ) × (suc q ≡ suc q′) × ((l : ℕ) × (t : ℕ) × (Step m s l t) × (rank m b t ≡ Some q′)) × ((l t : ℕ) → Step m s l t → (p : ℕ) × (rank m b t ≡ Some p) × (p ≤ q′))
       go (l-done d) = absurd (both-ways _ nd d)
       go (l-kiosk kio l t free st w) = absurd (both-ways _ kio pub′)
@@ -83,19 +85,19 @@ module _ (m : Meaning) (ok : Lawful m) (b : Bars) where
           let all : (l t : ℕ) → Step m s l t → (p : ℕ) × (rank m b t ≡ Some p) × (p ≤ q) = λ l t st. ranked m ok b q t (each l t st) in
           ⊎-elim
           (λ yes′.
-            let any = some-decides test (m .ceiling) .0 yes′ in
-            let to = reaches-to (m .next s (any .0)) (λ t. is (rank m b t) q) (any .2) in
-            (q, refl, (any .0, to .0, (st .0, to .1), is-eq (rank m b (to .0)) q (to .2)), all))
+          let any = some-decides test (m .ceiling) .0 yes′ in
+          let to = reaches-to (m .next s (any .0)) (λ t. is (rank m b t) q) (any .2) in
+          (q, refl, (any .0, to .0, (st .0, to .1), is-eq (rank m b (to .0)) q (to .2)), all))
           (λ no′.
-            let less : (l t p : ℕ) → Step m s l t → rank m b t ≡ Some p → p < q = λ l t p st f.
-                let top = all l t st in
-                let eq : top .0 ≡ p = same-some (top .1) f in
-                ⊎-elim
-                (λ same. absurd (both-ways _ no′ (some-decides test (m .ceiling) .1 (l, label-low m ok s l t (st .1), reaches-from (m .next s l) (λ t. is (rank m b t) q) t (st .1) (eq-is (rank m b t) q (f ∙ ap Some same))))))
-                (λ ne. ⊎-elim (λ lt. lt) (λ ge. absurd (ne (omega (arith, top .2)))) (cases-lt p q))
-                (cases-eq p q) in
-            let one = all l t st in
-            absurd (lower q e (λ l t st. let top = all l t st in (top .0, top .1, less l t (top .0) st (top .1))) (less l t (one .0) st (one .1))))
+          let less : (l t p : ℕ) → Step m s l t → rank m b t ≡ Some p → p < q = λ l t p st f.
+          let top = all l t st in
+          let eq : top .0 ≡ p = same-some (top .1) f in
+          ⊎-elim
+          (λ same. absurd (both-ways _ no′ (some-decides test (m .ceiling) .1 (l, label-low m ok s l t (st .1), reaches-from (m .next s l) (λ t. is (rank m b t) q) t (st .1) (eq-is (rank m b t) q (f ∙ ap Some same))))))
+          (λ ne. ⊎-elim (λ lt. lt) (λ ge. absurd (ne (omega (arith, top .2)))) (cases-lt p q))
+          (cases-eq p q) in
+          let one = all l t st in
+          absurd (lower q e (λ l t st. let top = all l t st in (top .0, top .1, less l t (top .0) st (top .1))) (less l t (one .0) st (one .1))))
           (cases-bool (some-below test (m .ceiling)))
         where
           lower : (q : ℕ) → rank m b s ≡ Some (suc q) → ((l t : ℕ) → Step m s l t → (p : ℕ) × (rank m b t ≡ Some p) × (p < q)) → {p : ℕ} → p < q → ⊥
@@ -105,8 +107,8 @@ module _ (m : Meaning) (ok : Lawful m) (b : Bars) where
   pub public-to : (s l t : ℕ) → m .public s ≡ true → Step m s l t → ((l′ t′ : ℕ) → Step m s l′ t′ → isSome (rank m b t′) ≡ true) → isSome (rank m b s) ≡ true
   public-to s l t pub′ st all =
       let top = ranked m ok b (suc (m .size)) s (within-to m ok b (m .size) s (l-public pub′ l t st
-                (λ l t st. let has = is-some (rank m b t) (all l t st) in
-                  within-le (has .0) (m .size) t (omega (arith, rank-is m ok b t (has .0) (has .1) .below)) (rank-within m ok b t (has .0) (has .1))))) in
+      (λ l t st. let has = is-some (rank m b t) (all l t st) in
+      within-le (has .0) (m .size) t (omega (arith, rank-is m ok b t (has .0) (has .1) .below)) (rank-within m ok b t (has .0) (has .1))))) in
       some-is (top .1)
 
   pub end-none : (s : ℕ) → done m s ≡ false → m .end s ≡ true → rank m b s ≡ None

@@ -41,9 +41,9 @@ first-none p zero e j h = absurd (omega arith)
 first-none p (suc n) e j h =
     ⊎-elim
     (λ none. ⊎-elim
-      (λ yes′. absurd (none-some e (ap (λ o. or-else o (cond (p n) (Some n) None)) none ∙ cond-true (p n) (Some n) None yes′)))
-      (λ no′. ⊎-elim (λ lt. first-none p n none j lt) (λ ge. let same : j ≡ n = omega arith in ap p same ∙ no′) (cases-lt j n))
-      (cases-bool (p n)))
+    (λ yes′. absurd (none-some e (ap (λ o. or-else o (cond (p n) (Some n) None)) none ∙ cond-true (p n) (Some n) None yes′)))
+    (λ no′. ⊎-elim (λ lt. first-none p n none j lt) (λ ge. let same : j ≡ n = omega arith in ap p same ∙ no′) (cases-lt j n))
+    (cases-bool (p n)))
     (λ some. absurd (none-some e (ap (λ o. or-else o (cond (p n) (Some n) None)) (some .1))))
     (option-cases (first-below p n))
 
@@ -52,15 +52,15 @@ first-is p zero k e = absurd (none-some refl e)
 first-is p (suc n) k e =
     ⊎-elim
     (λ none. ⊎-elim
-      (λ yes′.
-        let same : n ≡ k = same-some (ap (λ o. or-else o (cond (p n) (Some n) None)) none ∙ cond-true (p n) (Some n) None yes′) e in
-        record { passes = ap p (sym same) ∙ yes′; below = omega arith; lowest = λ j h. first-none p n none j (omega arith) })
-      (λ no′. absurd (none-some (ap (λ o. or-else o (cond (p n) (Some n) None)) none ∙ cond-false (p n) (Some n) None no′) e))
-      (cases-bool (p n)))
+    (λ yes′.
+    let same : n ≡ k = same-some (ap (λ o. or-else o (cond (p n) (Some n) None)) none ∙ cond-true (p n) (Some n) None yes′) e in
+    record { passes = ap p (sym same) ∙ yes′; below = omega arith; lowest = λ j h. first-none p n none j (omega arith) })
+    (λ no′. absurd (none-some (ap (λ o. or-else o (cond (p n) (Some n) None)) none ∙ cond-false (p n) (Some n) None no′) e))
+    (cases-bool (p n)))
     (λ some.
-      let same : some .0 ≡ k = same-some (ap (λ o. or-else o (cond (p n) (Some n) None)) (some .1)) e in
-      let less = first-is p n k (some .1 ∙ ap Some same) in
-      record { passes = less .passes; below = omega (arith, less .below); lowest = less .lowest })
+    let same : some .0 ≡ k = same-some (ap (λ o. or-else o (cond (p n) (Some n) None)) (some .1)) e in
+    let less = first-is p n k (some .1 ∙ ap Some same) in
+    record { passes = less .passes; below = omega (arith, less .below); lowest = less .lowest })
     (option-cases (first-below p n))
 
 pub first-some : (p : ℕ → Bool) (n k : ℕ) → k < n → p k ≡ true → (j : ℕ) × (first-below p n ≡ Some j) × (j ≤ k)

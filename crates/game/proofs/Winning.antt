@@ -51,12 +51,12 @@ module _ (m : Meaning) (ok : Lawful m) (b : Bars) where
         ⊎-elim
         (λ en. t-done (end-done _ (win .at-goal h f (inl en)) en))
         (λ ne. ⊎-elim
-          (λ pub′. let go = unblocked (at s h) pub′ ne in t-public pub′ (go .0) (go .1) (go .2))
-          (λ kio. ⊎-elim
-            (λ rests. t-done (kiosk-done _ (win .at-goal h f (inr (kio, rests))) kio))
-            (λ told. let can′ = w .legal s h (told .0) (follows-play w s h f) kio (told .1) in t-kiosk kio (told .0) (can′ .1 .0) (told .1) (can′ .0) (can′ .1 .1))
-            (option-cases (w .names s h)))
-          (cases-bool (m .public (at s h))))
+        (λ pub′. let go = unblocked (at s h) pub′ ne in t-public pub′ (go .0) (go .1) (go .2))
+        (λ kio. ⊎-elim
+        (λ rests. t-done (kiosk-done _ (win .at-goal h f (inr (kio, rests))) kio))
+        (λ told. let can′ = w .legal s h (told .0) (follows-play w s h f) kio (told .1) in t-kiosk kio (told .0) (can′ .1 .0) (told .1) (can′ .0) (can′ .1 .1))
+        (option-cases (w .names s h)))
+        (cases-bool (m .public (at s h))))
         (cases-bool (m .end (at s h)))
 
     -- after the play h, what is left of n bounds the rank
@@ -123,17 +123,19 @@ module _ (m : Meaning) (ok : Lawful m) (b : Bars) where
     where
       nd : done m s ≡ false
       nd = ⊎-elim (λ d. absurd (not-done m ok b s q e d)) (λ f. f) (cases-bool (done m s))
+
       same : (l t : ℕ) → b l ≡ false → m .next s l ≡ Some t → is (rank m b t) q ≡ within m b q t
       same l t free to =
           ⊎-elim
           (λ w.
-            let got = ranked m ok b q t w in
-            let (q′, eq, best, fair) = kiosk-best m ok b s (suc q) nd kio e in
-            let le : q′ ≤ got .0 = fair l t (got .0) free (goes-on m ok b s q e, to) (got .1) in
-            let is′ : got .0 ≡ q = omega (arith, got .2) in
-            eq-is (rank m b t) q (got .1 ∙ ap Some is′) ∙ sym w)
+          let got = ranked m ok b q t w in
+          let (q′, eq, best, fair) = kiosk-best m ok b s (suc q) nd kio e in
+          let le : q′ ≤ got .0 = fair l t (got .0) free (goes-on m ok b s q e, to) (got .1) in
+          let is′ : got .0 ≡ q = omega (arith, got .2) in
+          eq-is (rank m b t) q (got .1 ∙ ap Some is′) ∙ sym w)
           (λ nw. ⊎-elim (λ yes′. absurd (both-ways _ nw (rank-within m ok b t q (is-eq (rank m b t) q yes′)))) (λ no′. no′ ∙ sym nw) (cases-bool (is (rank m b t) q)))
           (cases-bool (within m b q t))
+
       each : (l : ℕ) (x : Bool) → b l ≡ x → (o : Option ℕ) → m .next s l ≡ o → (not x && leads-to o (λ t. is (rank m b t) q)) ≡ (not x && leads-to o (within m b q))
       each l true eb o eo = refl
       each l false eb None eo = refl
@@ -145,6 +147,7 @@ module _ (m : Meaning) (ok : Lawful m) (b : Bars) where
     where
       kio : m .public s ≡ false
       kio = choice-kiosk s l e .0
+
       go : (o : Option ℕ) → rank m b s ≡ o → choice-at m b s o ≡ Some l → LowestOfBest m b s l
       go None eo e = absurd (none-some refl e)
       go (Some zero) eo e = absurd (none-some refl e)
@@ -167,7 +170,7 @@ module _ (m : Meaning) (ok : Lawful m) (b : Bars) where
   choice-has s r nd kio e =
       let (q, same, best, fair) = kiosk-best m ok b s r nd kio e in
       let found = first-some (λ l. not (b l) && leads-to (m .next s l) (λ t. is (rank m b t) q)) (m .ceiling) (best .0) (label-low m ok s (best .0) (best .1) (best .3 .1))
-                (and-from _ _ (not-from-false _ (best .2)) (reaches-from (m .next s (best .0)) (λ t. is (rank m b t) q) (best .1) (best .3 .1) (eq-is (rank m b (best .1)) q (best .4)))) in
+      (and-from _ _ (not-from-false _ (best .2)) (reaches-from (m .next s (best .0)) (λ t. is (rank m b t) q) (best .1) (best .3 .1) (eq-is (rank m b (best .1)) q (best .4)))) in
       (found .0, kiosk-choice s kio ∙ ap (choice-at m b s) (e ∙ ap Some same) ∙ found .1)
 
   pub choice-done : (s r : ℕ) → m .public s ≡ false → rank m b s ≡ Some r → choice m b s ≡ None → done m s ≡ true
@@ -199,7 +202,7 @@ module _ (m : Meaning) (ok : Lawful m) (b : Bars) where
   goes-down s r e (x ∷ h) f =
       let (q, eq, le) = goes-down s r e h (f .0) in
       let down : (p : ℕ) × (rank m b (x .to) ≡ Some p) × (p < q) =
-            ⊎-elim (λ pub′. public-down (at s h) q (x .label) (x .to) pub′ eq (f .1)) (λ kio. choice-down (at s h) q (x .label) (x .to) eq (f .2 kio) (f .1)) (cases-bool (m .public (at s h))) in
+      ⊎-elim (λ pub′. public-down (at s h) q (x .label) (x .to) pub′ eq (f .1)) (λ kio. choice-down (at s h) q (x .label) (x .to) eq (f .2 kio) (f .1)) (cases-bool (m .public (at s h))) in
       (down .0, down .1, omega (arith, down .2))
 
   -- THE CHOICES WIN within the rank
@@ -213,6 +216,7 @@ module _ (m : Meaning) (ok : Lawful m) (b : Bars) where
       ended : (s q : ℕ) → rank m b s ≡ Some q → m .end s ≡ true → done m s ≡ true
       ended s zero e en = zero-done m ok b s e
       ended s (suc q) e en = absurd (both-ways _ (goes-on m ok b s q e) en)
+
       stop-is : (h : List Move) (q : ℕ) → rank m b (at s h) ≡ Some q → Stops m b choices s h → done m (at s h) ≡ true
       stop-is h q e (inl en) = ended (at s h) q e en
       stop-is h q e (inr rests) = choice-done (at s h) q (rests .0) e (rests .1)
@@ -234,9 +238,9 @@ module _ (m : Meaning) (ok : Lawful m) (b : Bars) where
   witness-has unblocked s pub′ ne un =
       ⊎-elim
       (λ none.
-        let one = unblocked s pub′ ne in
-        absurd (both-ways _ (ap isSome un) (public-to m ok b s (one .0) (one .1) pub′ (one .2)
-          (λ l t st. ranked-if (rank m b t) (ap (λ o. leads-to o (λ t. not (isSome (rank m b t)))) (sym (st .1)) ∙ first-none (λ l. leads-to (m .next s l) (λ t. not (isSome (rank m b t)))) (m .ceiling) none l (label-low m ok s l t (st .1)))))))
+      let one = unblocked s pub′ ne in
+      absurd (both-ways _ (ap isSome un) (public-to m ok b s (one .0) (one .1) pub′ (one .2)
+      (λ l t st. ranked-if (rank m b t) (ap (λ o. leads-to o (λ t. not (isSome (rank m b t)))) (sym (st .1)) ∙ first-none (λ l. leads-to (m .next s l) (λ t. not (isSome (rank m b t)))) (m .ceiling) none l (label-low m ok s l t (st .1)))))))
       (λ some. some)
       (option-cases (witness m b s))
     where
@@ -250,13 +254,13 @@ module _ (m : Meaning) (ok : Lawful m) (b : Bars) where
       let ih = lost w s un h (f .0) (sp .0) in
       ⊎-elim
       (λ pub′.
-        let sl = witness-is (at s h) (x .label) (f .1 .0) (sp .1 pub′ (f .1 .0) ih) in
-        ap (rank m b) (same-some (f .1 .1) (sl .1 .1)) ∙ sl .2)
+      let sl = witness-is (at s h) (x .label) (f .1 .0) (sp .1 pub′ (f .1 .0) ih) in
+      ap (rank m b) (same-some (f .1 .1) (sl .1 .1)) ∙ sl .2)
       (λ kio.
-        let can′ = w .legal s h (x .label) (follows-play w s h (f .0)) kio (f .2 kio) in
-        ⊎-elim (λ e. e)
-        (λ some. absurd (none-some ih (kiosk-to m ok b (at s h) (x .label) (x .to) (some .0) kio (can′ .0) (f .1) (some .1) .1)))
-        (option-cases (rank m b (x .to))))
+      let can′ = w .legal s h (x .label) (follows-play w s h (f .0)) kio (f .2 kio) in
+      ⊎-elim (λ e. e)
+      (λ some. absurd (none-some ih (kiosk-to m ok b (at s h) (x .label) (x .to) (some .0) kio (can′ .0) (f .1) (some .1) .1)))
+      (option-cases (rank m b (x .to))))
       (cases-bool (m .public (at s h)))
 
   pub witness-wins : (w : Strategy m b) (s : ℕ) → rank m b s ≡ None → (h : List Move) → Follows m b w s h → TakesWitness m b s h → Stops m b w s h → m .goal (at s h) ≡ false

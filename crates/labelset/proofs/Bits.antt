@@ -39,14 +39,14 @@ bit-one l x =
     ⊎-elim
     (λ same. ap (λ n. has-bit (2 ^ n) x) same ∙ ap (λ n. eqb (n / 2 ^ x % 2) 1) (sym (one-mul (2 ^ x))) ∙ ap (λ n. eqb (n % 2) 1) (shl-shr 1 x) ∙ sym (eq-eqb l x same))
     (⊎-elim
-      (λ less.
-        let gone : 2 ^ l / 2 ^ x ≡ 0 = omega (arith, div-below (2 ^ l) (2 ^ x) 1 (pow-pos x) (rw one-mul (pow-below l x less))) in
-        ap (λ n. eqb (n % 2) 1) gone ∙ sym (ne-eqb l x (λ e. omega arith)))
-      (λ more.
-        let j = l - x - 1 in
-        let sum : l ≡ suc j + x = omega arith in
-        let up : 2 ^ l / 2 ^ x ≡ 1 * 2 ^ suc j = ap (λ n. 2 ^ n / 2 ^ x) sum ∙ ap (λ n. n / 2 ^ x) (pow-add 2 (suc j) x) ∙ shl-shr (2 ^ suc j) x ∙ sym (one-mul (2 ^ suc j)) in
-        ap (λ n. eqb (n % 2) 1) up ∙ ap (λ n. eqb n 1) (shifted-even 1 j) ∙ sym (ne-eqb l x (λ e. omega arith))))
+    (λ less.
+    let gone : 2 ^ l / 2 ^ x ≡ 0 = omega (arith, div-below (2 ^ l) (2 ^ x) 1 (pow-pos x) (rw one-mul (pow-below l x less))) in
+    ap (λ n. eqb (n % 2) 1) gone ∙ sym (ne-eqb l x (λ e. omega arith)))
+    (λ more.
+    let j = l - x - 1 in
+    let sum : l ≡ suc j + x = omega arith in
+    let up : 2 ^ l / 2 ^ x ≡ 1 * 2 ^ suc j = ap (λ n. 2 ^ n / 2 ^ x) sum ∙ ap (λ n. n / 2 ^ x) (pow-add 2 (suc j) x) ∙ shl-shr (2 ^ suc j) x ∙ sym (one-mul (2 ^ suc j)) in
+    ap (λ n. eqb (n % 2) 1) up ∙ ap (λ n. eqb n 1) (shifted-even 1 j) ∙ sym (ne-eqb l x (λ e. omega arith))))
     (cases-order l x)
 
 differ-bit : (p q n y : ℕ) → p < 2 → q < 2 → n ≡ y * 2 + differ p (max p q) → eqb (n % 2) 1 ≡ (not (eqb p 1) && eqb q 1)

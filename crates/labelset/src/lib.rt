@@ -19,7 +19,11 @@ fn bit(set: u64, label: u8) -> bool
 fn bit_or_none(set: u64, label: u8) -> bool
     ensures { λ r. ⌜ r ≡ has-bit set label ⌝ }
 {
-    if label < LABELS { bit(set, label) } else { false }
+    if label < LABELS {
+        bit(set, label)
+    } else {
+        false
+    }
 }
 
 // Whether the label is in the set.
@@ -48,7 +52,11 @@ fn insert_low(set: u64, label: u8) -> u64
     ensures value { λ r. ⌜ r ≡ bits (with-label (has-bit set) label) 64 ⌝ }
     ensures labels { λ r. ⌜ (label < 64 → (l : ℕ) → has-bit r l ≡ with-label (has-bit set) label l) ⌝ }
 {
-    if label < LABELS { put_bit(set, label) } else { set }
+    if label < LABELS {
+        put_bit(set, label)
+    } else {
+        set
+    }
 }
 
 // The set with the label; one at or above 64 cannot be put in.
@@ -63,7 +71,11 @@ fn remove_low(set: u64, label: u8) -> u64
     ensures value { λ r. ⌜ r ≡ bits (without-label (has-bit set) label) 64 ⌝ }
     ensures labels { λ r. ⌜ (label < 64 → (l : ℕ) → has-bit r l ≡ without-label (has-bit set) label l) ⌝ }
 {
-    if label < LABELS { clear_bit(set, label) } else { set }
+    if label < LABELS {
+        clear_bit(set, label)
+    } else {
+        set
+    }
 }
 
 // The set without the label.

@@ -89,10 +89,10 @@ module _ (m : Meaning) (ok : Lawful m) where
       (first-of-all (state-fault m) (m .size) (λ s lt. sound-state s (record {
         kiosk-start = ⊎-elim (λ st. and-right (m .start s) (m .public s) (h .kiosk-starts s st)) (λ ns. and-left (m .start s) (m .public s) ns) (cases-bool (m .start s));
         not-stuck = ⊎-elim (λ en. and-left (not (m .end s)) _ (not-from-true _ en))
-              (λ ne. let go = h .has-moves s lt ne in and-right (not (m .end s)) _ (not-from-true _ (some-decides (feasible m s) (m .ceiling) .1 (go .0, label-low m ok s (go .0) (go .1) (go .2 .1), step-feasible m ok s (go .0) (go .1) (go .2)))))
-              (cases-bool (m .end s));
+            (λ ne. let go = h .has-moves s lt ne in and-right (not (m .end s)) _ (not-from-true _ (some-decides (feasible m s) (m .ceiling) .1 (go .0, label-low m ok s (go .0) (go .1) (go .2 .1), step-feasible m ok s (go .0) (go .1) (go .2)))))
+            (cases-bool (m .end s));
         passes-turn = first-all (keeps-turn m s) (m .ceiling) (λ l low′. ⊎-elim
-              (λ f. let to = feasible-step m ok s l f in and-right (feasible m s l) _ (ap (keeps m s) (to .1 .1) ∙ no-keeps (m .public s) (m .public (to .0)) (h .turns-alternate s l (to .0) (to .1))))
-              (λ nf. and-left (feasible m s l) _ nf)
-              (cases-bool (feasible m s l)));
+            (λ f. let to = feasible-step m ok s l f in and-right (feasible m s l) _ (ap (keeps m s) (to .1 .1) ∙ no-keeps (m .public s) (m .public (to .0)) (h .turns-alternate s l (to .0) (to .1))))
+            (λ nf. and-left (feasible m s l) _ nf)
+            (cases-bool (feasible m s l)));
       }))))

@@ -93,9 +93,9 @@ module _ (m : Meaning) (ok : Lawful m) (b : Bars) where
   pub all-ranked-held : ((s : ℕ) → m .start s ≡ true → isSome (rank m b s) ≡ true) → (n : ℕ) × (planned None ≡ Planned (Held n))
   all-ranked-held h =
       let none = first-all (lost-start m (rank m b)) (m .size) (λ s lt. ⊎-elim
-            (λ yes′. let both = and-parts _ _ yes′ in absurd (both-ways _ (not-true _ (both .1)) (h s (both .0))))
-            (λ no′. no′)
-            (cases-bool ((lost-start m (rank m b)) s))) in
+      (λ yes′. let both = and-parts _ _ yes′ in absurd (both-ways _ (not-true _ (both .1)) (h s (both .0))))
+      (λ no′. no′)
+      (cases-bool ((lost-start m (rank m b)) s))) in
       (highest (start-rank m (rank m b)) (m .size), ap (λ o. Planned (verdict o (highest (start-rank m (rank m b)) (m .size)))) none)
 
 module _ (m : Meaning) (ok : Lawful m) (L : Log) where
@@ -155,9 +155,9 @@ module _ (m : Meaning) (ok : Lawful m) where
   stands-sound (x ∷ L) k e =
       ⊎-elim
       (λ acc. ⊎-elim
-        (λ plan. no-fault-sound m ok (would-sound m ok L (ap (λ c. accepted (answer m L c)) (sym (plan-call (x .asked) plan)) ∙ sym (ap accepted (k .1)) ∙ acc)))
-        (λ old. stands-sound L (k .0) (and-parts _ _ old .0))
-        (or-cases (is-plan (x .asked)) _ (sym (cond-true (accepted (x .told)) _ _ acc) ∙ e)))
+      (λ plan. no-fault-sound m ok (would-sound m ok L (ap (λ c. accepted (answer m L c)) (sym (plan-call (x .asked) plan)) ∙ sym (ap accepted (k .1)) ∙ acc)))
+      (λ old. stands-sound L (k .0) (and-parts _ _ old .0))
+      (or-cases (is-plan (x .asked)) _ (sym (cond-true (accepted (x .told)) _ _ acc) ∙ e)))
       (λ ref. stands-sound L (k .0) (sym (cond-false (accepted (x .told)) _ _ ref) ∙ e))
       (cases-bool (accepted (x .told)))
 
@@ -277,20 +277,23 @@ module _ (m : Meaning) (ok : Lawful m) where
       ⊎-elim
       (λ d. inl (d, done-goal m ok (barred L) p d))
       (λ nd. inr (⊎-elim
-        (λ pub′.
-          let go = unblocked p pub′ (on left (run .ranked) nd) in
-          inr (go .0, ap (λ o. accepted (answered Reported (report-answer m o (go .0)))) (run .here) ∙
+      (λ pub′.
+      let go = unblocked p pub′ (on left (run .ranked) nd) in
+      inr (
+        go .0,
+        ap (λ o. accepted (answered Reported (report-answer m o (go .0)))) (run .here) ∙
             through Reported (done m p) RunOver _ nd (through Reported (not (m .public p)) OtherTurn _ (not-from-true _ pub′)
             (through Reported (not (feasible m p (go .0))) NotFeasible _ (not-from-true _ (step-feasible m ok p (go .0) (go .1) (go .2)))
-            (ap (λ o. accepted (answered Reported (or-fault NotFeasible o))) (go .2 .1))))))
-        (λ kio.
-          let ch = choice-has m ok (barred L) p left nd kio (run .ranked) in
-          let is′ = choice-is m ok (barred L) p (ch .0) (ch .1) in
-          inl (ap (λ o. accepted (answered replied (reply-answer m (ranking m (barred L)) (stands L) o))) (run .here) ∙
-            through replied (done m p) RunOver _ nd (through replied (m .public p) OtherTurn _ kio (through replied (not (stands L)) NoPlan _ (not-from-true _ (run .plan))
-            (through replied (not (isSome (rank m (barred L) p))) NoRank _ (not-from-true _ (ap isSome (run .ranked)))
-            (ap (λ o. accepted (answered replied (chosen-move m (ranking m (barred L)) p o))) (ch .1) ∙ ap (λ o. accepted (answered replied (with-rank (ch .0) (rank-of (ranking m (barred L)) o)))) (is′ .step .1) ∙ ap (λ o. accepted (answered replied (with-rank (ch .0) o))) (is′ .rank-to)))))))
-        (cases-bool (m .public p))))
+            (ap (λ o. accepted (answered Reported (or-fault NotFeasible o))) (go .2 .1)))),
+      ))
+      (λ kio.
+      let ch = choice-has m ok (barred L) p left nd kio (run .ranked) in
+      let is′ = choice-is m ok (barred L) p (ch .0) (ch .1) in
+      inl (ap (λ o. accepted (answered replied (reply-answer m (ranking m (barred L)) (stands L) o))) (run .here) ∙
+      through replied (done m p) RunOver _ nd (through replied (m .public p) OtherTurn _ kio (through replied (not (stands L)) NoPlan _ (not-from-true _ (run .plan))
+      (through replied (not (isSome (rank m (barred L) p))) NoRank _ (not-from-true _ (ap isSome (run .ranked)))
+      (ap (λ o. accepted (answered replied (chosen-move m (ranking m (barred L)) p o))) (ch .1) ∙ ap (λ o. accepted (answered replied (with-rank (ch .0) (rank-of (ranking m (barred L)) o)))) (is′ .step .1) ∙ ap (λ o. accepted (answered replied (with-rank (ch .0) o))) (is′ .rank-to)))))))
+      (cases-bool (m .public p))))
       (cases-bool (done m p))
     where
       on : (r : ℕ) → rank m (barred L) (run .place) ≡ Some r → done m (run .place) ≡ false → m .end (run .place) ≡ false
@@ -310,14 +313,16 @@ module _ (m : Meaning) (ok : Lawful m) where
   unfolding answer witness
   rate-lost L unblocked st s pub′ ne un =
       let sp = witness-has m ok (barred L) unblocked s pub′ ne un in
-      let lost : Rating = LostPublic (valueOr (witness m (barred L) s) 0) in
-      (sp .0, sp .1,
+      let lost : Rating = LostPublic (valueOr (witness m (barred L) s) 0) in (
+        sp .0,
+        sp .1,
         ap (λ t. answered Rated (refuse-if (not t) NoState (refuse-if (not (stands L)) NoPlan (Ok (rating m (ranking m (barred L)) s))))) (lt-ltb s (m .size) (public-inside m ok s pub′)) ∙
-        ap (λ t. answered Rated (refuse-if (not t) NoPlan (Ok (rating m (ranking m (barred L)) s)))) st ∙
-        ap (λ o. Rated (rating-at m (ranking m (barred L)) s o)) un ∙
-        ap (λ t. Rated (cond t LostEnd (cond (m .public s) lost LostKiosk))) ne ∙
-        ap (λ t. Rated (cond t lost LostKiosk)) pub′ ∙
-        ap (λ o. Rated (LostPublic (valueOr o 0))) (sp .1))
+            ap (λ t. answered Rated (refuse-if (not t) NoPlan (Ok (rating m (ranking m (barred L)) s)))) st ∙
+            ap (λ o. Rated (rating-at m (ranking m (barred L)) s o)) un ∙
+            ap (λ t. Rated (cond t LostEnd (cond (m .public s) lost LostKiosk))) ne ∙
+            ap (λ t. Rated (cond t lost LostKiosk)) pub′ ∙
+            ap (λ o. Rated (LostPublic (valueOr o 0))) (sp .1),
+      )
 
   same-lost : {l k : ℕ} {a : Answer} → a ≡ Rated (LostPublic l) → a ≡ Rated (LostPublic k) → l ≡ k
   same-lost e f = cc

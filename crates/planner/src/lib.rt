@@ -23,14 +23,25 @@ fn put_refusal(number: u8, first: usize, second: usize, out: &mut [u8]) -> Optio
     ensures value { λ r. ⌜ (r, now (out .exit)) ≡ shown (refusal-line number first second) (now (out .entry)) ⌝ }
     ensures short { λ _. ⌜ length (refusal-line number first second) ≤ 10 + 4096 * 13 ⌝ }
 {
-    text::put_line(out, 0, b"REFUSED ", number as u64, first as u64, second as u64)
+    text::put_line(
+        out,
+        0,
+        b"REFUSED ",
+        number as u64,
+        first as u64,
+        second as u64,
+    )
 }
 
 // The part of an input that is looked at.
 fn first(input: &[u8]) -> &[u8]
     ensures { λ r. ⌜ now r ≡ take 65536 (now (input .entry)) ⌝ }
 {
-    if input.len() > INPUT { &input[0..INPUT] } else { input }
+    if input.len() > INPUT {
+        &input[0..INPUT]
+    } else {
+        input
+    }
 }
 
 // The sheet in the entries that a reading used.
@@ -41,7 +52,10 @@ fn sheet_of<'a>(counts: Counts, rows: &'a [Row], moves: &'a [Move]) -> Sheet<'a>
 {
     let states = counts.states as usize;
     let arcs = counts.moves;
-    Sheet { rows: &rows[0..states], moves: &moves[0..arcs] }
+    Sheet {
+        rows: &rows[0..states],
+        moves: &moves[0..arcs],
+    }
 }
 
 // Plans over a game, and writes the listing or the line of plan's fault.
@@ -73,7 +87,16 @@ pub fn respond(input: &[u8], out: &mut [u8]) -> Option<usize>
     ensures value { λ r. ⌜ (r, now (out .exit)) ≡ shown (printed (now (input .entry))) (now (out .entry)) ⌝ }
     ensures short { λ _. ⌜ length (printed (now (input .entry))) ≤ 10 + 4096 * 13 ⌝ }
 {
-    let mut rows = [Row { flags: 0, place: 0, len: 0, first: 0, count: 0 }; 4096];
-    let mut moves = [Move { label: 0, target: 0 }; 8192];
+    let mut rows = [Row {
+        flags: 0,
+        place: 0,
+        len: 0,
+        first: 0,
+        count: 0,
+    }; 4096];
+    let mut moves = [Move {
+        label: 0,
+        target: 0,
+    }; 8192];
     respond_in(first(input), &mut rows, &mut moves, out)
 }

@@ -46,12 +46,12 @@ module _ (m : Meaning) (ok : Lawful m) where
       mid = λ s. inl (blank s);
       pointed = zero-pointed m b 0 [] (λ s. refl);
       counted = sym (many-none (has-cell cells) (m .size) (λ u. ap (λ c. isSome (c .rank)) (blank u)));
-      inside = λ j lt. absurd (omega arith)
-      };
+      inside = λ j lt. absurd (omega arith);
+    };
     told = λ b s lt. absurd (omega arith);
     rest = λ s le. blank s;
-    fresh = λ s e. absurd (both-ways true (sym (ap isSome e) ∙ ap (λ c. isSome (c .rank)) (blank s)) refl)
-    }
+    fresh = λ s e. absurd (both-ways true (sym (ap isSome e) ∙ ap (λ c. isSome (c .rank)) (blank s)) refl);
+  }
 
   begun-none : (s : ℕ) (cells : List Cell) (queue : List ℕ) (tail : ℕ) → Begun m s cells queue tail → has-cell cells s ≡ false
   begun-none s cells queue tail h = ap (λ c. isSome (c .rank)) (h .rest s (omega arith))
@@ -63,26 +63,26 @@ module _ (m : Meaning) (ok : Lawful m) where
   begun-not s cells queue tail h d = record {
     run = h .run;
     told = λ b u lt. ⊎-elim
-      (λ e. h .rest u (omega arith) ∙ ap (cell-of m b u) (sym (first-unknown b u (ap (done m) e ∙ d))))
-      (λ ne. h .told b u (⊎-elim (λ l. l) (λ ge. absurd (ne (omega arith))) (cases-lt u s)))
-      (cases-eq u s);
+        (λ e. h .rest u (omega arith) ∙ ap (cell-of m b u) (sym (first-unknown b u (ap (done m) e ∙ d))))
+        (λ ne. h .told b u (⊎-elim (λ l. l) (λ ge. absurd (ne (omega arith))) (cases-lt u s)))
+        (cases-eq u s);
     rest = λ u le. h .rest u (omega arith);
-    fresh = h .fresh
-    }
+    fresh = h .fresh;
+  }
 
   pub begun-done : (s : ℕ) (cells : List Cell) (queue : List ℕ) (tail : ℕ) → s < m .size → m .size ≤ length cells → m .size ≤ length queue → Begun m s cells queue tail → done m s ≡ true → Begun m (s + 1) (set cells s (record { rank = Some 0; choice = None })) (set queue tail s) (tail + 1)
   begun-done s cells queue tail lt room seats h d = record {
     run = λ b. entered-run m ok b 0 s cells queue [] [] tail (h .run b) lt room seats (begun-none s cells queue tail h) (first-known b s d) (h .run b .pointed);
     told = λ b u less. ⊎-elim
-      (λ e. subst (Touched m b 0 (set cells s (record { rank = Some 0; choice = None }))) (sym e) (entered-touched m ok b 0 s cells queue [] [] tail (h .run b) lt room seats (begun-none s cells queue tail h) (first-known b s d) (h .run b .pointed)))
-      (λ ne. mv b .grows u (h .told b u (⊎-elim (λ l. l) (λ ge. absurd (ne (omega arith))) (cases-lt u s))))
-      (cases-eq u s);
+        (λ e. subst (Touched m b 0 (set cells s (record { rank = Some 0; choice = None }))) (sym e) (entered-touched m ok b 0 s cells queue [] [] tail (h .run b) lt room seats (begun-none s cells queue tail h) (first-known b s d) (h .run b .pointed)))
+        (λ ne. mv b .grows u (h .told b u (⊎-elim (λ l. l) (λ ge. absurd (ne (omega arith))) (cases-lt u s))))
+        (cases-eq u s);
     rest = λ u le. getD-set-other cells s u (record { rank = Some 0; choice = None }) empty (λ e. omega arith) ∙ h .rest u (omega arith);
     fresh = λ u e. ⊎-elim
-      (λ old. let st = h .fresh u old in (st .0, st .1, omega (arith, st .2), mv (λ _. false) .keeps (st .0) (st .2) ∙ st .3))
-      (λ st. (st .0, omega arith, st .2, st .3))
-      (mv (λ _. false) .added u e)
-    }
+        (λ old. let st = h .fresh u old in (st .0, st .1, omega (arith, st .2), mv (λ _. false) .keeps (st .0) (st .2) ∙ st .3))
+        (λ st. (st .0, omega arith, st .2, st .3))
+        (mv (λ _. false) .added u e);
+  }
     where
       mv : (b : Bars) → Moved m b 0 cells queue tail (set cells s (record { rank = Some 0; choice = None })) (set queue tail s) (tail + 1)
       mv b = entered-moved m ok b 0 s cells queue [] [] tail (h .run b) lt room seats (begun-none s cells queue tail h) (first-known b s d) (h .run b .pointed)
@@ -93,8 +93,8 @@ module _ (m : Meaning) (ok : Lawful m) where
     pointed = zero-pointed m b 1 ptr zeros;
     counted = h .run b .counted;
     inside = h .run b .inside;
-    layer = λ s e. h .fresh s (ap (λ c. c .rank) (all s) ∙ rank-of-cell m b s (known m b 1 s) ∙ e)
-    }
+    layer = λ s e. h .fresh s (ap (λ c. c .rank) (all s) ∙ rank-of-cell m b s (known m b 1 s) ∙ e);
+  }
     where
       all : (s : ℕ) → Touched m b 0 cells s
       all s = ⊎-elim (λ lt. h .told b s lt) (λ ge. h .rest s ge ∙ ap (cell-of m b s) (sym (none-outside m ok b 1 s ge))) (cases-lt s (m .size))

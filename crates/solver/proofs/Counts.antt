@@ -29,6 +29,6 @@ many-more p q (suc n) s lt e f h =
     ⊎-elim
     (λ less. omega (arith, many-more p q n s less e f h, ap {B = ℕ} (λ x. cond x 1 0) (h n (λ z. omega arith))))
     (λ ge.
-      let same : n ≡ s = omega arith in
-      omega (arith, count-equal p q n (λ u lt′. h u (λ z. omega arith)), cond-false {A = ℕ} (p n) 1 0 (ap p same ∙ e), cond-true {A = ℕ} (q n) 1 0 (ap q same ∙ f)))
+    let same : n ≡ s = omega arith in
+    omega (arith, count-equal p q n (λ u lt′. h u (λ z. omega arith)), cond-false {A = ℕ} (p n) 1 0 (ap p same ∙ e), cond-true {A = ℕ} (q n) 1 0 (ap q same ∙ f)))
     (cases-lt s n)

@@ -39,10 +39,10 @@ module _ (m : Meaning) (ok : Lawful m) (b : Bars) where
     keeps = λ j lt. y .keeps j (omega (arith, x .longer)) ∙ x .keeps j lt;
     longer = omega (arith, x .longer, y .longer);
     added = λ s e. ⊎-elim
-      (λ old. ⊎-elim (λ e′. inl e′) (λ st. inr (st .0, st .1, omega (arith, st .2, y .longer), y .keeps (st .0) (st .2) ∙ st .3)) (x .added s old))
-      (λ st. inr (st .0, omega (arith, st .1, x .longer), st .2, st .3))
-      (y .added s e)
-    }
+        (λ old. ⊎-elim (λ e′. inl e′) (λ st. inr (st .0, st .1, omega (arith, st .2, y .longer), y .keeps (st .0) (st .2) ∙ st .3)) (x .added s old))
+        (λ st. inr (st .0, omega (arith, st .1, x .longer), st .2, st .3))
+        (y .added s e);
+  }
 
   pub has-room : (k s : ℕ) (cells : List Cell) (queue ptr : List ℕ) (tail : ℕ) → Run m b k cells queue ptr tail → s < m .size → has-cell cells s ≡ false → tail < m .size
   has-room k s cells queue ptr tail run lt e = omega (arith, run .counted, many-below (has-cell cells) (m .size) s lt e)
@@ -73,10 +73,10 @@ module _ (m : Meaning) (ok : Lawful m) (b : Bars) where
       pointed = points;
       counted = omega (arith, run .counted, many-more (has-cell cells) (has-cell (set cells s (cell-of m b s (Some k)))) (m .size) s lt none (ap (λ c. isSome (c .rank)) here ∙ ap isSome (rank-of-cell m b s (Some k))) (λ u ne. sym (ap (λ c. isSome (c .rank)) (other u ne))));
       inside = λ j less. ⊎-elim
-        (λ e. subst (λ x. x < m .size) (sym (ap (λ i. getD (set queue tail s) i 0) e ∙ getD-set-same queue tail s 0 last)) lt)
-        (λ ne. subst (λ x. x < m .size) (sym (getD-set-other queue tail j s 0 ne)) (run .inside j (⊎-elim (λ h. h) (λ h. absurd (ne (omega arith))) (cases-lt j tail))))
-        (cases-eq j tail)
-      }
+          (λ e. subst (λ x. x < m .size) (sym (ap (λ i. getD (set queue tail s) i 0) e ∙ getD-set-same queue tail s 0 last)) lt)
+          (λ ne. subst (λ x. x < m .size) (sym (getD-set-other queue tail j s 0 ne)) (run .inside j (⊎-elim (λ h. h) (λ h. absurd (ne (omega arith))) (cases-lt j tail))))
+          (cases-eq j tail);
+    }
 
     pub entered-moved : Moved m b k cells queue tail (set cells s (cell-of m b s (Some k))) (set queue tail s) (tail + 1)
     entered-moved = record {
@@ -84,10 +84,10 @@ module _ (m : Meaning) (ok : Lawful m) (b : Bars) where
       keeps = λ j less. getD-set-other queue tail j s 0 (λ e. omega arith);
       longer = omega arith;
       added = λ u h. ⊎-elim
-        (λ e. inr (tail, omega arith, omega arith, getD-set-same queue tail s 0 last ∙ sym e))
-        (λ ne. inl (ap (λ c. c .rank) (sym (other u ne)) ∙ h))
-        (cases-eq u s)
-      }
+          (λ e. inr (tail, omega arith, omega arith, getD-set-same queue tail s 0 last ∙ sym e))
+          (λ ne. inl (ap (λ c. c .rank) (sym (other u ne)) ∙ h))
+          (cases-eq u s);
+    }
 
   -- a rank as it becomes known
   rank-known : (k s : ℕ) → known m b (suc k) s ≡ Some k → rank m b s ≡ Some k
@@ -118,15 +118,15 @@ module _ (m : Meaning) (ok : Lawful m) (b : Bars) where
       let r = rank-known (suc q) s e in
       ⊎-elim
       (λ pub′.
-        let w = public-worst m ok b s (suc q) nd pub′ r in
-        let same : w .0 ≡ q = omega (arith, w .1) in
-        let a = arc-of s (w .2 .0) (w .2 .1) (w .2 .2 .1) (and-from _ _ (not-from-false _ (w .2 .2 .0)) (or-left _ _ pub′)) lt in
-        (a .0, w .2 .1, a .1, a .2, a .3, known-rank q (w .2 .1) (w .2 .3 ∙ ap Some same)))
+      let w = public-worst m ok b s (suc q) nd pub′ r in
+      let same : w .0 ≡ q = omega (arith, w .1) in
+      let a = arc-of s (w .2 .0) (w .2 .1) (w .2 .2 .1) (and-from _ _ (not-from-false _ (w .2 .2 .0)) (or-left _ _ pub′)) lt in
+      (a .0, w .2 .1, a .1, a .2, a .3, known-rank q (w .2 .1) (w .2 .3 ∙ ap Some same)))
       (λ kio.
-        let w = kiosk-best m ok b s (suc q) nd kio r in
-        let same : w .0 ≡ q = omega (arith, w .1) in
-        let a = arc-of s (w .2 .0) (w .2 .1) (w .2 .3 .1) (and-from _ _ (not-from-false _ (w .2 .3 .0)) (or-right (m .public s) _ (not-from-false _ (w .2 .2)))) lt in
-        (a .0, w .2 .1, a .1, a .2, a .3, known-rank q (w .2 .1) (w .2 .4 ∙ ap Some same)))
+      let w = kiosk-best m ok b s (suc q) nd kio r in
+      let same : w .0 ≡ q = omega (arith, w .1) in
+      let a = arc-of s (w .2 .0) (w .2 .1) (w .2 .3 .1) (and-from _ _ (not-from-false _ (w .2 .3 .0)) (or-right (m .public s) _ (not-from-false _ (w .2 .2)))) lt in
+      (a .0, w .2 .1, a .1, a .2, a .3, known-rank q (w .2 .1) (w .2 .4 ∙ ap Some same)))
       (cases-bool (m .public s))
 
   pub pointed-more : (k : ℕ) (ptr : List ℕ) → Pointed m b k ptr → Pointed m b (suc k) ptr
@@ -151,27 +151,29 @@ module _ (m : Meaning) (ok : Lawful m) (b : Bars) where
     counted = run .counted;
     inside = run .inside;
     layer = λ s e. ⊎-elim
-      (λ old. absurd (late s (sym (told q s c0 (at .holds s)) ∙ old)))
-      (λ st. st)
-      (mv .added s (told (suc q) s c1 (holds′ s) ∙ e))
-    }
+        (λ old. absurd (late s (sym (told q s c0 (at .holds s)) ∙ old)))
+        (λ st. st)
+        (mv .added s (told (suc q) s c1 (holds′ s) ∙ e));
+  }
     where
       late : (s : ℕ) → known m b (suc q) s ≡ Some (suc q) → ⊥
       late s e = omega (arith, first-is (λ j. within m b j s) (suc q) (suc q) e .below)
+
       new′ : (s : ℕ) → known m b (suc q) s ≡ None → (t : Bool) → within m b (suc q) s ≡ t → getD c1 s empty ≡ cell-of m b s (known m b (suc q) s) → Touched m b (suc q) c1 s
       new′ s none true w h =
-        let d = arc-down q s (ap (λ o. or-else o (cond (within m b (suc q) s) (Some (suc q)) None)) none ∙ cond-true (within m b (suc q) s) _ _ w) in
-        let st = at .layer (d .1) (d .5) in
-        subst (Touched m b (suc q) c1) (d .4) (all (st .0) (st .1) (st .2) (d .0) (d .2) (d .3 ∙ ap Some (sym (st .3))) (omega arith))
+          let d = arc-down q s (ap (λ o. or-else o (cond (within m b (suc q) s) (Some (suc q)) None)) none ∙ cond-true (within m b (suc q) s) _ _ w) in
+          let st = at .layer (d .1) (d .5) in
+          subst (Touched m b (suc q) c1) (d .4) (all (st .0) (st .1) (st .2) (d .0) (d .2) (d .3 ∙ ap Some (sym (st .3))) (omega arith))
       new′ s none false w h = h ∙ ap (cell-of m b s) (none ∙ sym (ap (λ o. or-else o (cond (within m b (suc q) s) (Some (suc q)) None)) none ∙ cond-false (within m b (suc q) s) _ _ w))
+
       holds′ : (s : ℕ) → Touched m b (suc q) c1 s
       holds′ s = ⊎-elim
-        (λ h. ⊎-elim
+          (λ h. ⊎-elim
           (λ none. new′ s none (within m b (suc q) s) refl h)
           (λ some. h ∙ ap (cell-of m b s) (sym (known-more m ok b (suc q) s (ap isSome (some .1)))))
           (option-cases (known m b (suc q) s)))
-        (λ h. h)
-        (run .mid s)
+          (λ h. h)
+          (run .mid s)
 
   -- no state has rank k: none has a greater one
   pub last-layer : (k lo hi : ℕ) (cells : List Cell) (queue ptr : List ℕ) → At m b k lo hi cells queue ptr → hi ≤ lo → Filled m b cells
@@ -179,6 +181,6 @@ module _ (m : Meaning) (ok : Lawful m) (b : Bars) where
     where
       old : (s : ℕ) → within m b k s ≡ true → isSome (known m b k s) ≡ true
       old s w = ⊎-elim
-        (λ none. let st = at .layer s (ap (λ o. or-else o (cond (within m b k s) (Some k) None)) none ∙ cond-true (within m b k s) _ _ w) in absurd (omega (arith, st .1, st .2)))
-        (λ some. ap isSome (some .1))
-        (option-cases (known m b k s))
+          (λ none. let st = at .layer s (ap (λ o. or-else o (cond (within m b k s) (Some k) None)) none ∙ cond-true (within m b k s) _ _ w) in absurd (omega (arith, st .1, st .2)))
+          (λ some. ap isSome (some .1))
+          (option-cases (known m b k s))

@@ -43,9 +43,9 @@ module _ (m : Meaning) (ok : Lawful m) (b : Bars) where
       ⊎-elim
       (λ w. ap isSome (first-some (λ j. within m b j s) (suc q) q (omega arith) w .1) ∙ sym w)
       (λ nw. ⊎-elim
-        (λ none. ap isSome none ∙ sym nw)
-        (λ some. let is = first-is (λ j. within m b j s) (suc q) (some .0) (some .1) in absurd (both-ways _ nw (within-le m ok b (some .0) q s (omega (arith, is .below)) (is .passes))))
-        (option-cases (known m b (suc q) s)))
+      (λ none. ap isSome none ∙ sym nw)
+      (λ some. let is = first-is (λ j. within m b j s) (suc q) (some .0) (some .1) in absurd (both-ways _ nw (within-le m ok b (some .0) q s (omega (arith, is .below)) (is .passes))))
+      (option-cases (known m b (suc q) s)))
       (cases-bool (within m b q s))
 
   -- below k, the cells of both stages tell the same
@@ -60,9 +60,9 @@ module _ (m : Meaning) (ok : Lawful m) (b : Bars) where
   under-next k s =
       ⊎-elim
       (λ none. ap (λ o. under (or-else o (cond (within m b k s) (Some k) None)) k) none ∙ ⊎-elim
-        (λ w. ap (λ o. under o k) (cond-true (within m b k s) (Some k) None w) ∙ le-ltb k k (omega arith))
-        (λ nw. ap (λ o. under o k) (cond-false (within m b k s) (Some k) None nw))
-        (cases-bool (within m b k s)) ∙ sym (ap isSome none))
+      (λ w. ap (λ o. under o k) (cond-true (within m b k s) (Some k) None w) ∙ le-ltb k k (omega arith))
+      (λ nw. ap (λ o. under o k) (cond-false (within m b k s) (Some k) None nw))
+      (cases-bool (within m b k s)) ∙ sym (ap isSome none))
       (λ some. ap (λ o. under (or-else o (cond (within m b k s) (Some k) None)) k) (some .1) ∙ lt-ltb (some .0) k (first-is (λ j. within m b j s) k (some .0) (some .1) .below) ∙ sym (ap isSome (some .1)))
       (option-cases (known m b k s))
 
@@ -89,12 +89,12 @@ module _ (m : Meaning) (ok : Lawful m) (b : Bars) where
   agree k s h =
       ⊎-elim
       (λ none. ⊎-elim
-        (λ un. none ∙ sym un)
-        (λ some. let got = h (some .0) (first-is (λ j. within m b j s) (suc (m .size)) (some .0) (some .1) .passes) in absurd (both-ways _ (first-none (λ j. within m b j s) k none (got .0) (got .1)) (got .2)))
-        (option-cases (rank m b s)))
+      (λ un. none ∙ sym un)
+      (λ some. let got = h (some .0) (first-is (λ j. within m b j s) (suc (m .size)) (some .0) (some .1) .passes) in absurd (both-ways _ (first-none (λ j. within m b j s) k none (got .0) (got .1)) (got .2)))
+      (option-cases (rank m b s)))
       (λ some.
-        let got = ranked m ok b (some .0) s (first-is (λ j. within m b j s) k (some .0) (some .1) .passes) in
-        some .1 ∙ ap Some (same-first (λ j. within m b j s) k (suc (m .size)) (some .0) (got .0) (some .1) (got .1)) ∙ sym (got .1))
+      let got = ranked m ok b (some .0) s (first-is (λ j. within m b j s) k (some .0) (some .1) .passes) in
+      some .1 ∙ ap Some (same-first (λ j. within m b j s) k (suc (m .size)) (some .0) (got .0) (some .1) (got .1)) ∙ sym (got .1))
       (option-cases (known m b k s))
 
   never : ((s : ℕ) → within m b 0 s ≡ true → ⊥) → (i s : ℕ) → within m b i s ≡ true → ⊥
@@ -124,9 +124,9 @@ module _ (m : Meaning) (ok : Lawful m) (b : Bars) where
       no-choice false h = h
   cell-is s (Some (suc q)) e =
       ap (λ c. record { rank = Some (suc q); choice = c }) (⊎-elim
-        (λ pub′. cond-true (m .public s) None (lowest-label m b (within m b q) s) pub′ ∙ sym (public-choice m ok b s pub′))
-        (λ kio. cond-false (m .public s) None (lowest-label m b (within m b q) s) kio ∙ sym (choice-layer m ok b s q kio e))
-        (cases-bool (m .public s)))
+      (λ pub′. cond-true (m .public s) None (lowest-label m b (within m b q) s) pub′ ∙ sym (public-choice m ok b s pub′))
+      (λ kio. cond-false (m .public s) None (lowest-label m b (within m b q) s) kio ∙ sym (choice-layer m ok b s q kio e))
+      (cases-bool (m .public s)))
 
   -- cells that hold every rank are solved
   pub filled-solved : (cells : List Cell) → Filled m b cells → Solved m b cells

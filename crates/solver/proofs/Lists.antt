@@ -29,9 +29,9 @@ latest-above p (suc n) d h e =
     ⊎-elim
     (λ t. omega (arith, cond-true (p n) (suc n) (latest p n) t))
     (λ f. ⊎-elim
-      (λ lt. omega (arith, cond-false (p n) (suc n) (latest p n) f, latest-above p n d lt e))
-      (λ ge. let same : d ≡ n = omega arith in absurd (both-ways _ f (ap p (sym same) ∙ e)))
-      (cases-lt d n))
+    (λ lt. omega (arith, cond-false (p n) (suc n) (latest p n) f, latest-above p n d lt e))
+    (λ ge. let same : d ≡ n = omega arith in absurd (both-ways _ f (ap p (sym same) ∙ e)))
+    (cases-lt d n))
     (cases-bool (p n))
 
 -- and it is one more than one that does
@@ -60,22 +60,22 @@ module _ (m : Meaning) (ok : Lawful m) (b : Bars) where
   pub link-none : (e : ℕ) (head link : List ℕ) → Linked m b e head link → arc m b e ≡ None → Linked m b (e + 1) head link
   link-none e head link h none = record {
     heads = λ u lt. h .heads u lt ∙ sym (latest-past (into m b u) e (ap (λ o. is o u) none));
-    links = λ d u lt at. h .links d u (⊎-elim (λ less. less) (λ ge. let same : d ≡ e = omega arith in absurd (none-some none (ap (arc m b) (sym same) ∙ at))) (cases-lt d e)) at
-    }
+    links = λ d u lt at. h .links d u (⊎-elim (λ less. less) (λ ge. let same : d ≡ e = omega arith in absurd (none-some none (ap (arc m b) (sym same) ∙ at))) (cases-lt d e)) at;
+  }
 
   pub link-some : (e t : ℕ) (head link : List ℕ) → m .size ≤ length head → e < length link → Linked m b e head link → arc m b e ≡ Some t → Linked m b (e + 1) (set head t (e + 1)) (set link e (getD head t 0))
   link-some e t head link room in′ h some = record {
     heads = λ u lt. ⊎-elim
-      (λ same. ap (λ x. getD (set head t (e + 1)) x 0) same ∙ getD-set-same head t (e + 1) 0 (omega (arith, arc-inside e t some)) ∙ sym (ap (λ x. latest (into m b x) (e + 1)) same ∙ latest-now (into m b t) e (eq-is (arc m b e) t some)))
-      (λ ne. getD-set-other head t u (e + 1) 0 ne ∙ h .heads u lt ∙ sym (latest-past (into m b u) e (ap (λ o. is o u) some ∙ ne-eqb t u (λ z. ne (sym z)))))
-      (cases-eq u t);
+        (λ same. ap (λ x. getD (set head t (e + 1)) x 0) same ∙ getD-set-same head t (e + 1) 0 (omega (arith, arc-inside e t some)) ∙ sym (ap (λ x. latest (into m b x) (e + 1)) same ∙ latest-now (into m b t) e (eq-is (arc m b e) t some)))
+        (λ ne. getD-set-other head t u (e + 1) 0 ne ∙ h .heads u lt ∙ sym (latest-past (into m b u) e (ap (λ o. is o u) some ∙ ne-eqb t u (λ z. ne (sym z)))))
+        (cases-eq u t);
     links = λ d u lt at. ⊎-elim
-      (λ same.
+        (λ same.
         let to : u ≡ t = same-some at (ap (arc m b) same ∙ some) in
         ap (λ x. getD (set link e (getD head t 0)) x 0) same ∙ getD-set-same link e (getD head t 0) 0 in′ ∙ h .heads t (arc-inside e t some) ∙ ap (λ x. latest (into m b x) e) (sym to) ∙ ap (latest (into m b u)) (sym same))
-      (λ ne. getD-set-other link e d (getD head t 0) 0 ne ∙ h .links d u (⊎-elim (λ less. less) (λ ge. absurd (ne (omega arith))) (cases-lt d e)) at)
-      (cases-eq d e)
-    }
+        (λ ne. getD-set-other link e d (getD head t 0) 0 ne ∙ h .links d u (⊎-elim (λ less. less) (λ ge. absurd (ne (omega arith))) (cases-lt d e)) at)
+        (cases-eq d e);
+  }
 
   -- arcs that lead nowhere
   pub link-nones : (n e : ℕ) (head link : List ℕ) → Linked m b e head link → ((d : ℕ) → e ≤ d → d < e + n → arc m b d ≡ None) → Linked m b (e + n) head link

@@ -38,20 +38,22 @@ module _ (m : Meaning) (ok : Lawful m) (b : Bars) where
 
   module _ (k t : ℕ) (head link : List ℕ) (linked : Linked m b (m .size * 64) head link) where
     pub walk-starts : (cells : List Cell) → t < m .size → Followed m b k cells t (getD head t 0) × Stop m b t (getD head t 0)
-    walk-starts cells lt =
-        ((λ d less at le. absurd (omega (arith, linked .heads t lt, latest-above (into m b t) (m .size * 64) d less (eq-is (arc m b d) t at)))),
-        (λ d e. let got = latest-is (into m b t) (m .size * 64) d (sym (linked .heads t lt) ∙ e) in (is-eq (arc m b d) t (got .0), got .1)))
+    walk-starts cells lt = (
+      (λ d less at le. absurd (omega (arith, linked .heads t lt, latest-above (into m b t) (m .size * 64) d less (eq-is (arc m b d) t at)))),
+      (λ d e. let got = latest-is (into m b t) (m .size * 64) d (sym (linked .heads t lt) ∙ e) in (is-eq (arc m b d) t (got .0), got .1)),
+    )
 
     pub walk-less : (d : ℕ) → arc m b d ≡ Some t → d < m .size * 64 → getD link d 0 ≤ d
     walk-less d at lt = omega (arith, linked .links d t lt at, latest-le (into m b t) d)
 
     pub walk-goes : (d : ℕ) (c0 c1 : List Cell) (q0 q1 : List ℕ) (t0 t1 : ℕ) → arc m b d ≡ Some t → d < m .size * 64 → Moved m b k c0 q0 t0 c1 q1 t1 → Touched m b k c1 (d / 64) → Followed m b k c0 t (suc d) → Followed m b k c1 t (getD link d 0) × Stop m b t (getD link d 0)
-    walk-goes d c0 c1 q0 q1 t0 t1 at lt mv here old =
-        ((λ e less to le. ⊎-elim
+    walk-goes d c0 c1 q0 q1 t0 t1 at lt mv here old = (
+      (λ e less to le. ⊎-elim
           (λ below. absurd (omega (arith, linked .links d t lt at, latest-above (into m b t) d e below (eq-is (arc m b e) t to))))
           (λ above. ⊎-elim
-            (λ same. subst (λ x. Touched m b k c1 (x / 64)) (sym same) here)
-            (λ ne. mv .grows (e / 64) (old e less to (⊎-elim (λ gt. gt) (λ ge. absurd (ne (omega arith))) (cases-lt d e))))
-            (cases-eq e d))
+          (λ same. subst (λ x. Touched m b k c1 (x / 64)) (sym same) here)
+          (λ ne. mv .grows (e / 64) (old e less to (⊎-elim (λ gt. gt) (λ ge. absurd (ne (omega arith))) (cases-lt d e))))
+          (cases-eq e d))
           (cases-lt e d)),
-        (λ e eq. let got = latest-is (into m b t) d e (sym (linked .links d t lt at) ∙ eq) in (is-eq (arc m b e) t (got .0), omega (arith, got .1))))
+      (λ e eq. let got = latest-is (into m b t) d e (sym (linked .links d t lt at) ∙ eq) in (is-eq (arc m b e) t (got .0), omega (arith, got .1))),
+    )

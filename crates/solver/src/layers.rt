@@ -55,7 +55,14 @@ fn all_low<G: Game>(game: &G, cells: &[Cell], ptr: &mut [u8], k: u32, s: usize) 
 }
 
 // What `s` gets as a state of rank `k`, from the ranks below. A move of its own leads to one of them.
-fn ripe<G: Game>(game: &G, bars: u64, cells: &[Cell], ptr: &mut [u8], k: u32, s: usize) -> Option<Cell>
+fn ripe<G: Game>(
+    game: &G,
+    bars: u64,
+    cells: &[Cell],
+    ptr: &mut [u8],
+    k: u32,
+    s: usize,
+) -> Option<Cell>
     requires room { ⌜ meaning (now game) .size ≤ length (now cells) ⌝ }
     requires state { ⌜ s < length (now ptr) ⌝ }
     requires late { ⌜ 0 < k ⌝ }
@@ -70,12 +77,18 @@ fn ripe<G: Game>(game: &G, bars: u64, cells: &[Cell], ptr: &mut [u8], k: u32, s:
     }
     if game.is_public(s) {
         if all_low(game, cells, ptr, k, s) {
-            return Some(Cell { rank: Some(k), choice: None });
+            return Some(Cell {
+                rank: Some(k),
+                choice: None,
+            });
         }
         return None;
     }
     match pick(game, bars, cells, k, s) {
-        Some(l) => Some(Cell { rank: Some(k), choice: Some(l) }),
+        Some(l) => Some(Cell {
+            rank: Some(k),
+            choice: Some(l),
+        }),
         None => None,
     }
 }
@@ -135,7 +148,15 @@ fn reach<G: Game>(game: &G, bars: u64, cells: &mut [Cell], work: &mut Work, k: u
 }
 
 // Follows every arc into `t`.
-fn walk<G: Game>(game: &G, bars: u64, cells: &mut [Cell], work: &mut Work, preds: &Predecessors, k: u32, t: usize)
+fn walk<G: Game>(
+    game: &G,
+    bars: u64,
+    cells: &mut [Cell],
+    work: &mut Work,
+    preds: &Predecessors,
+    k: u32,
+    t: usize,
+)
     requires few { ⌜ meaning (now game) .size ≤ 4096 ⌝ }
     requires room { ⌜ meaning (now game) .size ≤ length (now cells) ⌝ }
     requires linked { ⌜ Linked (meaning (now game)) (has-bit bars) (meaning (now game) .size * 64) (now preds .head) (now preds .link) ⌝ }
@@ -155,7 +176,15 @@ fn walk<G: Game>(game: &G, bars: u64, cells: &mut [Cell], work: &mut Work, preds
 }
 
 // The states of rank `k - 1` stand in the queue from `lo` on: gives the rank `k` to all that have it, and puts them behind.
-pub(crate) fn layer<G: Game>(game: &G, bars: u64, cells: &mut [Cell], work: &mut Work, preds: &Predecessors, k: u32, lo: usize)
+pub(crate) fn layer<G: Game>(
+    game: &G,
+    bars: u64,
+    cells: &mut [Cell],
+    work: &mut Work,
+    preds: &Predecessors,
+    k: u32,
+    lo: usize,
+)
     requires few { ⌜ meaning (now game) .size ≤ 4096 ⌝ }
     requires room { ⌜ meaning (now game) .size ≤ length (now cells) ⌝ }
     requires linked { ⌜ Linked (meaning (now game)) (has-bit bars) (meaning (now game) .size * 64) (now preds .head) (now preds .link) ⌝ }
@@ -178,7 +207,13 @@ fn begin_at<G: Game>(game: &G, cells: &mut [Cell], work: &mut Work, s: usize)
     ensures ptr { λ _. ⌜ now (work .exit) .ptr ≡ now (work .entry) .ptr ⌝ }
 {
     if is_done(game, s) {
-        write(&mut cells[s], Cell { rank: Some(0), choice: None });
+        write(
+            &mut cells[s],
+            Cell {
+                rank: Some(0),
+                choice: None,
+            },
+        );
         push(work, s);
     }
 }

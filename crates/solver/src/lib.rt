@@ -39,7 +39,10 @@ pub fn cell_at(cells: &[Cell], s: usize) -> Cell
     if s < cells.len() {
         cells[s]
     } else {
-        Cell { rank: None, choice: None }
+        Cell {
+            rank: None,
+            choice: None,
+        }
     }
 }
 
@@ -64,7 +67,10 @@ fn clear(cells: &mut [Cell])
     ensures { λ _. ⌜ ((s : ℕ) → getD (now (cells .exit)) s empty ≡ empty) ⌝ }
 {
     for i in 0..cells.len() {
-        cells[i] = Cell { rank: None, choice: None };
+        cells[i] = Cell {
+            rank: None,
+            choice: None,
+        };
     }
 }
 
@@ -74,8 +80,15 @@ fn fill<G: Game>(game: &G, bars: u64, cells: &mut [Cell])
     requires few { ⌜ meaning (now game) .size ≤ 4096 ⌝ }
     ensures { λ _. ⌜ Filled (meaning (now (game .entry))) (has-bit bars) (now (cells .exit)) ⌝ }
 {
-    let mut preds = Predecessors { head: [0; 4096], link: [0; 262144] };
-    let mut work = Work { queue: [0; 4096], ptr: [0; 4096], tail: 0 };
+    let mut preds = Predecessors {
+        head: [0; 4096],
+        link: [0; 262144],
+    };
+    let mut work = Work {
+        queue: [0; 4096],
+        ptr: [0; 4096],
+        tail: 0,
+    };
     clear(cells);
     arcs::link_all(game, bars, &mut preds);
     begin(game, cells, &mut work);

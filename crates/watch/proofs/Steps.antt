@@ -110,7 +110,7 @@ module _ (m : Meaning) (ok : Lawful m) where
       let sh = old .shows in
       ap (λ o. answered Opened (open-answer m (ranking-of d) (d .planned) o s)) (sh .at-position) ∙ ap (λ st. answered Opened (open-answer m (ranking-of d) st (position m L) s)) (sh .plan) ∙
       ap (answered Opened) (same-if (isSome (position m L)) RunOpen _ _ (λ _. same-if (not (m .start s)) NotStart _ _ (λ _. same-if (not (stands L)) NoPlan _ _ (λ on.
-        ap (λ ρ. or-fault NoRank (ρ .rank s)) (planned-ranking L d sh (not-false _ on))))))
+      ap (λ ρ. or-fault NoRank (ρ .rank s)) (planned-ranking L d sh (not-false _ on))))))
 
   pub open-extends : (d : Memory) (s : ℕ) → Extends m d (Open s) (answered Opened (open-answer m (ranking-of d) (d .planned) (d .position) s)) (after (open-answer m (ranking-of d) (d .planned) (d .position) s) d (moved-to d (Some s)))
   open-extends d s = by-result d (moved-to d (Some s)) (Open s) Opened _ (open-right d s) (λ a L _ old. quiet-shows L d (Open s) (Opened a) (Some s) (record { no-label = λ x. refl; no-plan = refl; no-change = λ b. refl }) (old .shows) refl refl)
@@ -132,7 +132,7 @@ module _ (m : Meaning) (ok : Lawful m) where
   reply-extends d r is =
       by-result d (moved-to d (replied-to m d r)) Reply replied r (λ L old. ap (answered replied) is ∙ reply-right d L old)
       (λ a L e old. quiet-shows L d Reply (replied a) (replied-to m d r) (record { no-label = λ x. refl; no-plan = refl; no-change = λ b. refl }) (old .shows) refl
-        (ap (replied-to m d) e ∙ ap (λ o. behind m o (a .0)) (old .shows .at-position)))
+      (ap (replied-to m d) e ∙ ap (λ o. behind m o (a .0)) (old .shows .at-position)))
 
   -- Report
   report-right : (d : Memory) (l : ℕ) (L : Log) → Lived m L d → answered Reported (report-answer m (d .position) l) ≡ answer m L (Report l)
@@ -280,5 +280,5 @@ turn m d₀ d e qs rs i q₀ r h k before now′ L old =
     let told : take (i + 1) (set rs i r) ≡ take i rs ++ (r ∷ []) = take-more-set rs i r k in
     let same : length (take i qs) ≡ length (take i rs) = length-take-le i qs (omega arith) ∙ sym (length-take-le i rs (omega arith)) in
     let log : log-of (i + 1) qs (set rs i r) L ≡ entry q r ∷ log-of i qs rs L =
-          ap (λ x. logged x (take (i + 1) (set rs i r)) L) asked ∙ ap (λ x. logged (take i qs ++ (q ∷ [])) x L) told ∙ logged-more (take i qs) (take i rs) q r L same in
+    ap (λ x. logged x (take (i + 1) (set rs i r)) L) asked ∙ ap (λ x. logged (take i qs ++ (q ∷ [])) x L) told ∙ logged-more (take i qs) (take i rs) q r L same in
     subst (λ x. Lived m x e) (sym log) (now′ _ (before L old))

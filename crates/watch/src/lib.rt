@@ -59,13 +59,28 @@ impl<G: Game> Watch<G> {
         ensures same { λ r. ⌜ r .game ≡ game ⌝ }
         ensures lived { λ r. ⌜ Lived (meaning game) [] (r .memory) ⌝ }
     {
-        let table = Table { cells: [Cell { rank: None, choice: None }; 4096] };
-        let memory = Memory { bars: 0, position: None, planned: false, refusals: 0, table };
+        let table = Table {
+            cells: [Cell {
+                rank: None,
+                choice: None,
+            }; 4096],
+        };
+        let memory = Memory {
+            bars: 0,
+            position: None,
+            planned: false,
+            refusals: 0,
+            table,
+        };
         Watch { game, memory }
     }
 
     // Counts a refusal, or takes the run to the position.
-    fn finish<T: Copy>(&mut self, answer: Result<T, Fault>, position: Option<usize>) -> Result<T, Fault>
+    fn finish<T: Copy>(
+        &mut self,
+        answer: Result<T, Fault>,
+        position: Option<usize>,
+    ) -> Result<T, Fault>
         ensures same { λ _. ⌜ now (self .exit) .game ≡ now (self .entry) .game ⌝ }
         ensures value { λ r. ⌜ r ≡ answer ⌝ }
         ensures after { λ _. ⌜ now (self .exit) .memory ≡ after answer (now (self .entry) .memory) (moved-to (now (self .entry) .memory) position) ⌝ }
@@ -394,7 +409,9 @@ fn rating<G: Game>(game: &G, cells: &[Cell], s: usize) -> Rating
                 return Rating::LostEnd;
             }
             if game.is_public(s) {
-                return Rating::LostPublic { label: witness(game, cells, s) };
+                return Rating::LostPublic {
+                    label: witness(game, cells, s),
+                };
             }
             Rating::LostKiosk
         }

@@ -62,4 +62,3 @@ pub fn watch_all<G: Game + Drop>(game: G, calls: &[Call], answers: &mut [Answer]
     let mut watch = Watch::new(game);
     watch.carry_out(calls, answers)
 }
-

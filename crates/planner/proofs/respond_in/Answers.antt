@@ -31,9 +31,9 @@ returns-in-Ok c =
     let counts = c .in-Ok .counts in
     let sheet = c .sheet-of .result in
     let same : game-text (sheet-meaning (sheet .rows .now) (sheet .moves .now)) ≡ bytes-text n k (c .args .bytes .now) =
-          ap (λ rows. game-text (sheet-meaning rows (sheet .moves .now))) (c .sheet-of .ensures .rows)
-          ∙ ap (λ moves. game-text (sheet-meaning (take (counts .states) (c .read .last .rows)) moves)) (c .sheet-of .ensures .moves)
-          ∙ printed-of n k (c .args .bytes .now) (Ok counts) (c .read .last .rows) (c .read .last .moves) (c .in-Ok .ensures tt .value) in
+    ap (λ rows. game-text (sheet-meaning rows (sheet .moves .now))) (c .sheet-of .ensures .rows)
+    ∙ ap (λ moves. game-text (sheet-meaning (take (counts .states) (c .read .last .rows)) moves)) (c .sheet-of .ensures .moves)
+    ∙ printed-of n k (c .args .bytes .now) (Ok counts) (c .read .last .rows) (c .read .last .moves) (c .in-Ok .ensures tt .value) in
     let both = carried _ (bytes-text n k (c .args .bytes .now)) (c .args .out .now) (c .plan-game .last .out) (c .plan-game .result) same (c .plan-game .ensures .value) (c .plan-game .ensures .short) in
     record { value = both .0; short = both .1 }
 
@@ -43,9 +43,9 @@ returns-in-Err c =
     let k = length (c .args .moves .now) in
     let fault = c .in-Err .fault in
     let same : refusal-line (c .number .result) (c .index .result) (c .offset .result) ≡ bytes-text n k (c .args .bytes .now) =
-          ap (λ x. refusal-line x (c .index .result) (c .offset .result)) (c .number .ensures)
-          ∙ ap (λ x. refusal-line (number-of fault) x (c .offset .result)) (c .index .ensures)
-          ∙ ap (λ x. refusal-line (number-of fault) (index-of fault) x) (c .offset .ensures)
-          ∙ printed-of n k (c .args .bytes .now) (Err fault) (c .read .last .rows) (c .read .last .moves) (c .in-Err .ensures tt .value) in
+    ap (λ x. refusal-line x (c .index .result) (c .offset .result)) (c .number .ensures)
+    ∙ ap (λ x. refusal-line (number-of fault) x (c .offset .result)) (c .index .ensures)
+    ∙ ap (λ x. refusal-line (number-of fault) (index-of fault) x) (c .offset .ensures)
+    ∙ printed-of n k (c .args .bytes .now) (Err fault) (c .read .last .rows) (c .read .last .moves) (c .in-Err .ensures tt .value) in
     let both = carried _ (bytes-text n k (c .args .bytes .now)) (c .args .out .now) (c .put-refusal .last .out) (c .put-refusal .result) same (c .put-refusal .ensures .value) (c .put-refusal .ensures .short) in
     record { value = both .0; short = both .1 }

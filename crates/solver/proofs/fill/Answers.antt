@@ -25,11 +25,11 @@ add-k g c = omega (arith, c .loop-lo-test .taken, c .loop-lo .inv .1, c .pre .fe
 
 pub layer-requires : need.layer-requires
 layer-requires g c κs = record {
-    few = c .pre .few;
-    room = omega (arith, c .pre .room, c .clear .kept .cells, c .begin .kept .cells, c .loop-lo .kept .cells);
-    linked = c .link-all .ensures;
-    at = (c .loop-lo .k, add-one (c .loop-lo .k), c .loop-lo .inv .0)
-    }
+  few = c .pre .few;
+  room = omega (arith, c .pre .room, c .clear .kept .cells, c .begin .kept .cells, c .loop-lo .kept .cells);
+  linked = c .link-all .ensures;
+  at = (c .loop-lo .k, add-one (c .loop-lo .k), c .loop-lo .inv .0);
+}
 
 pub loop-lo-less : need.loop-lo-less
 loop-lo-less g c = omega (arith, c .loop-lo-test .taken, c .pre .few, c .loop-lo .inv .0 .counted, many-le (has-cell (c .loop-lo .cells)) ((g .G·Game .meaning (c .args .game .now)) .size))

@@ -12,11 +12,15 @@ use Rattle.solver.proofs.layers.all_low.Needs as need
 pub returns : need.returns
 returns g c =
     let m = g .G·Game .meaning (c .args .game .now) in
-    let r = c .lead-on-l .result in
-    (r, refl, c .lead-on-l .ensures .few, c .lead-on-l .ensures .passes,
+    let r = c .lead-on-l .result in (
+      r,
+      refl,
+      c .lead-on-l .ensures .few,
+      c .lead-on-l .ensures .passes,
       ⊎-elim
-      (λ lt. lt-leb (c .labels .result) r (omega (arith, c .labels .ensures)) ∙ sym (all-fails (λ x. none-or (m .next (c .args .s) x) (low (c .args .cells .now) (c .args .k))) r (m .ceiling) lt (c .lead-on-l .ensures .stops lt)))
-      (λ ge.
-        let same : r ≡ m .ceiling = omega (arith, c .lead-on-l .ensures .few) in
-        le-leb (c .labels .result) r (omega (arith, c .labels .ensures)) ∙ sym (c .lead-on-l .ensures .passes) ∙ ap (passed m (low (c .args .cells .now) (c .args .k)) (c .args .s)) same)
-      (cases-lt r (m .ceiling)))
+          (λ lt. lt-leb (c .labels .result) r (omega (arith, c .labels .ensures)) ∙ sym (all-fails (λ x. none-or (m .next (c .args .s) x) (low (c .args .cells .now) (c .args .k))) r (m .ceiling) lt (c .lead-on-l .ensures .stops lt)))
+          (λ ge.
+          let same : r ≡ m .ceiling = omega (arith, c .lead-on-l .ensures .few) in
+          le-leb (c .labels .result) r (omega (arith, c .labels .ensures)) ∙ sym (c .lead-on-l .ensures .passes) ∙ ap (passed m (low (c .args .cells .now) (c .args .k)) (c .args .s)) same)
+          (cases-lt r (m .ceiling)),
+    )

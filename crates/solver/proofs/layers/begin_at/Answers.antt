@@ -14,9 +14,9 @@ push-requires g c κs = (omega (arith, c .pre .state, c .pre .few), omega (arith
 
 pub returns-then-is-done : need.returns-then-is-done
 returns-then-is-done g c = record {
-    after = begun-same (g .G·Game .meaning (c .args .game .now)) (c .args .s + 1) (ap (set (c .args .cells .now) (c .args .s)) (sym (c .write .ensures))) (sym (c .push .ensures .queue)) (sym (c .push .ensures .tail)) (begun-done (g .G·Game .meaning (c .args .game .now)) (g .G·Game .lawful (c .args .game .now)) (c .args .s) (c .args .cells .now) (c .args .work .now .queue) (c .args .work .now .tail) (c .pre .state) (c .pre .room) (omega (arith, c .pre .few, c .args .work .now .seats)) (c .pre .before) (sym (c .is-done .ensures) ∙ c .if-is-done .taken));
-    ptr = c .push .ensures .ptr
-    }
+  after = begun-same (g .G·Game .meaning (c .args .game .now)) (c .args .s + 1) (ap (set (c .args .cells .now) (c .args .s)) (sym (c .write .ensures))) (sym (c .push .ensures .queue)) (sym (c .push .ensures .tail)) (begun-done (g .G·Game .meaning (c .args .game .now)) (g .G·Game .lawful (c .args .game .now)) (c .args .s) (c .args .cells .now) (c .args .work .now .queue) (c .args .work .now .tail) (c .pre .state) (c .pre .room) (omega (arith, c .pre .few, c .args .work .now .seats)) (c .pre .before) (sym (c .is-done .ensures) ∙ c .if-is-done .taken));
+  ptr = c .push .ensures .ptr;
+}
 
 pub returns-else-is-done : need.returns-else-is-done
 returns-else-is-done g c = record { after = begun-not (g .G·Game .meaning (c .args .game .now)) (g .G·Game .lawful (c .args .game .now)) (c .args .s) (c .args .cells .now) (c .args .work .now .queue) (c .args .work .now .tail) (c .pre .before) (sym (c .is-done .ensures) ∙ c .if-is-done .left); ptr = refl }

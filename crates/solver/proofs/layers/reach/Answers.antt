@@ -32,5 +32,5 @@ returns-then-visit g c =
     record {
       run = run-same m b k is (sym (c .push .ensures .queue)) (sym (c .push .ensures .ptr)) (sym (c .push .ensures .tail)) (entered-run m ok b k s cells queue (c .args .work .now .ptr) (c .visit .last .ptr) tail (c .pre .run) (c .pre .state) (c .pre .room) room (got .0) (got .1) (c .visit .ensures .pointed));
       moved = moved-same m b k cells queue tail is (sym (c .push .ensures .queue)) (sym (c .push .ensures .tail)) (entered-moved m ok b k s cells queue (c .args .work .now .ptr) (c .visit .last .ptr) tail (c .pre .run) (c .pre .state) (c .pre .room) room (got .0) (got .1) (c .visit .ensures .pointed));
-      touched = subst (λ x. Touched m b k x s) is (entered-touched m ok b k s cells queue (c .args .work .now .ptr) (c .visit .last .ptr) tail (c .pre .run) (c .pre .state) (c .pre .room) room (got .0) (got .1) (c .visit .ensures .pointed))
+      touched = subst (λ x. Touched m b k x s) is (entered-touched m ok b k s cells queue (c .args .work .now .ptr) (c .visit .last .ptr) tail (c .pre .run) (c .pre .state) (c .pre .room) room (got .0) (got .1) (c .visit .ensures .pointed));
     }

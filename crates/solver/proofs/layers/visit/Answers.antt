@@ -22,7 +22,7 @@ returns-then-has-rank g c =
       cells = refl;
       new = λ e. absurd (both-ways _ refl e);
       old = λ _. had m ok (has-bit (c .args .bars)) (c .args .k) (c .args .s) (c .args .cells .now) (c .pre .mid) (sym (c .has-rank .ensures) ∙ c .if-has-rank .taken);
-      pointed = c .pre .pointed
+      pointed = c .pre .pointed;
     }
 
 pub returns-in-Some : need.returns-in-Some
@@ -36,7 +36,7 @@ returns-in-Some g c =
       cells = ap (set (c .args .cells .now) (c .args .s)) (c .write .ensures ∙ got .0);
       new = λ _. (none, got .1);
       old = λ e. absurd (both-ways _ e refl);
-      pointed = subst (Pointed m (has-bit (c .args .bars)) (c .args .k)) (sym (x .1)) (set-pointed m ok (has-bit (c .args .bars)) (c .args .k) (c .args .s) (x .0) (c .args .cells .now) (c .args .ptr .now) (c .pre .mid) (c .pre .pointed) (omega (arith, c .pre .state, c .pre .places)) (x .2) (x .3))
+      pointed = subst (Pointed m (has-bit (c .args .bars)) (c .args .k)) (sym (x .1)) (set-pointed m ok (has-bit (c .args .bars)) (c .args .k) (c .args .s) (x .0) (c .args .cells .now) (c .args .ptr .now) (c .pre .mid) (c .pre .pointed) (omega (arith, c .pre .state, c .pre .places)) (x .2) (x .3));
     }
 
 pub returns-in-None : need.returns-in-None
@@ -49,5 +49,5 @@ returns-in-None g c =
       cells = refl;
       new = λ e. absurd (both-ways _ refl e);
       old = λ _. still m ok (has-bit (c .args .bars)) (c .args .k) (c .args .s) (c .args .cells .now) (c .pre .mid) none (sym (c .ripe .ensures .value) ∙ c .in-None .is);
-      pointed = subst (Pointed m (has-bit (c .args .bars)) (c .args .k)) (sym (x .1)) (set-pointed m ok (has-bit (c .args .bars)) (c .args .k) (c .args .s) (x .0) (c .args .cells .now) (c .args .ptr .now) (c .pre .mid) (c .pre .pointed) (omega (arith, c .pre .state, c .pre .places)) (x .2) (x .3))
+      pointed = subst (Pointed m (has-bit (c .args .bars)) (c .args .k)) (sym (x .1)) (set-pointed m ok (has-bit (c .args .bars)) (c .args .k) (c .args .s) (x .0) (c .args .cells .now) (c .args .ptr .now) (c .pre .mid) (c .pre .pointed) (omega (arith, c .pre .state, c .pre .places)) (x .2) (x .3));
     }

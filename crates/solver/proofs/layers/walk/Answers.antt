@@ -30,7 +30,7 @@ reach-requires g c κs =
       state = omega (arith, at .1);
       late = c .pre .late;
       moves = arc-moves m ok (has-bit (c .args .bars)) d (c .args .t) (at .0);
-      run = c .loop-e .inv .0
+      run = c .loop-e .inv .0;
     }
 
 pub loop-e-less : need.loop-e-less

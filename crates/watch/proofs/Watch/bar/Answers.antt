@@ -50,7 +50,7 @@ returns g c =
     let many : c .size .result ≡ count-below (with-label (bars-of d) x) 64 = c .size .ensures ∙ count-equal (has-bit n) (with-label (bars-of d) x) 64 (λ l _. c .insert-bars .ensures .labels small l) in
     let value′ : Ok (c .size .result) ≡ right = ap Ok many ∙ ap (λ t. refuse-if (not t) NoLabel (Ok (count-below (with-label (bars-of d) x) 64))) (sym (lt-ltb x (m .ceiling) low)) in
     let left : _≡_ {A = Memory} (record { bars = n; position = d .position; planned = d .planned && (c .contains-was .result); refusals = d .refusals; table = d .table }) (barred-too d x) =
-          λ i. record { bars = c .insert-bars .ensures .value i; position = d .position; planned = d .planned && (c .contains-was .ensures i); refusals = d .refusals; table = d .table } in
+    λ i. record { bars = c .insert-bars .ensures .value i; position = d .position; planned = d .planned && (c .contains-was .ensures i); refusals = d .refusals; table = d .table } in
     record {
       same = refl;
       value = value′;

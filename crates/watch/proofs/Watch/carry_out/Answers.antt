@@ -18,12 +18,13 @@ loop-i-again g c =
     let (same, long, rest, lived) = c .loop-i .inv in
     let i : ℕ = c .loop-i .i in
     let here : i < length (c .args .calls .now) = omega (arith, c .min-n .ensures, c .loop-i-test .taken) in
-    let room : i < length (c .loop-i .answers) = omega (arith, c .min-n .ensures, c .loop-i-test .taken) in
-    (c .ask .ensures .same ∙ same,
+    let room : i < length (c .loop-i .answers) = omega (arith, c .min-n .ensures, c .loop-i-test .taken) in (
+      c .ask .ensures .same ∙ same,
       length-set _ _ _ ∙ long,
       drop-set-lt (i + 1) (c .loop-i .answers) i (c .ask .result) (omega arith) ∙ sym (drop-drop 1 i (c .loop-i .answers)) ∙ ap (drop 1) rest ∙ drop-drop 1 i (c .args .answers .now),
       turn (meaning (c .args .self .now .game)) (c .args .self .now .memory) (c .loop-i .self .memory) (c .ask .last .self .memory) (c .args .calls .now) (c .loop-i .answers) i Plan (c .ask .result) here room lived
-      (subst (λ x. Extends (meaning x) (c .loop-i .self .memory) (getD (c .args .calls .now) i Plan) (c .ask .result) (c .ask .last .self .memory)) same (c .ask .ensures .extends)))
+          (subst (λ x. Extends (meaning x) (c .loop-i .self .memory) (getD (c .args .calls .now) i Plan) (c .ask .result) (c .ask .last .self .memory)) same (c .ask .ensures .extends)),
+    )
 
 pub returns : need.returns
 returns g c =
