@@ -18,12 +18,9 @@ abbrev pub bits : Bars → ℕ → ℕ
 bits b zero = 0
 bits b (suc n) = cond (b n) (2 ^ n) 0 + bits b n
 
--- a set of labels with label x, and without it
-abbrev pub with-label : Bars → ℕ → Bars
-with-label b x l = eqb x l || b l
-
-abbrev pub without-label : Bars → ℕ → Bars
-without-label b x l = not (eqb x l) && b l
+-- the set b with label x in it, or out of it
+abbrev pub set-label : Bars → ℕ → Bool → Bars
+set-label b x member l = cond (eqb x l) member (b l)
 
 -- there is a next state, and it passes
 abbrev pub leads-to : Option ℕ → (ℕ → Bool) → Bool

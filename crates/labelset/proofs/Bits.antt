@@ -8,11 +8,11 @@ use lib.Dec.{ltb, eqb}
 use lib.Bits.{shifted-even, bitAnd, bitOr, bitXor, or-step, xor-step, or-shr, xor-shr, differ}
 use lib.Count.{ones, ones-step, ones-cat}
 use native.Mathlib.Nat.{one-mul, zero-mul}
-use Rattle.game.specs.Ranks.{bits, with-label, without-label}
+use Rattle.game.specs.Ranks.{bits, set-label}
 use native.Mathlib.Numerals.{add-one, one-add}
 use lib.Pow.{mod-mod-pow, pow-mono}
 use Rattle.std.proofs.shelf.Bits.{shl-shr, field-of, ones-le, shr-split, pow-pos, pow-add, one-shl, mod-below, pow-below, div-below, shr-shr}
-use Rattle.std.proofs.shelf.Tests.{cases-lt, cases-eq, cases-order, eq-eqb, ne-eqb}
+use Rattle.std.proofs.shelf.Tests.{cases-lt, cases-eq, cases-order, eq-eqb, ne-eqb, cond-false}
 use Rattle.std.proofs.shelf.Ways.{tells}
 use Rattle.game.specs.Search.{count-below}
 use Rattle.game.proofs.Searches.{count-equal}
@@ -121,8 +121,20 @@ pub whole-set : (n : ℕ) (b : ℕ → Bool) → n < 2 ^ 64 → ((l : ℕ) → l
 whole-set n b fits each = sym (bits-back 64 n fits) ∙ bits-same (has-bit n) b 64 each
 
 -- a label at or above 64 changes nothing
-pub high-with-label : (set x : ℕ) → 64 ≤ x → (l : ℕ) → l < 64 → has-bit set l ≡ with-label (has-bit set) x l
-high-with-label set x high l low = ap (λ t. t || has-bit set l) (sym (ne-eqb x l (λ e. omega arith)))
+pub high-label : (set x : ℕ) (member : Bool) → 64 ≤ x → (l : ℕ) → l < 64 → has-bit set l ≡ set-label (has-bit set) x member l
+high-label set x member high l low = sym (cond-false (eqb x l) member (has-bit set l) (ne-eqb x l (λ e. omega arith)))
 
-pub high-without-label : (set x : ℕ) → 64 ≤ x → (l : ℕ) → l < 64 → has-bit set l ≡ without-label (has-bit set) x l
-high-without-label set x high l low = ap (λ t. not t && has-bit set l) (sym (ne-eqb x l (λ e. omega arith)))
+-- a label put in, or taken out
+pub put-in : (x l : ℕ) (old : Bool) → (eqb x l || old) ≡ cond (eqb x l) true old
+put-in x l old = go (eqb x l)
+  where
+    go : (t : Bool) → (t || old) ≡ cond t true old
+    go true = refl
+    go false = refl
+
+pub taken-out : (x l : ℕ) (old : Bool) → (not (eqb x l) && old) ≡ cond (eqb x l) false old
+taken-out x l old = go (eqb x l)
+  where
+    go : (t : Bool) → (not t && old) ≡ cond t false old
+    go true = refl
+    go false = refl

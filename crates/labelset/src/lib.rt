@@ -1,8 +1,10 @@
 // A set of labels below 64 as the bits of one number.
 ghost use mathlib.Core.Path.{_≡_};
+ghost use mathlib.Core.Bool.{not, _&&_, _||_};
 ghost use Prim.Native.Nat.{ℕ, _<_};
+ghost use lib.Dec.{eqb};
 ghost use Rattle.game.specs.Search.{count-below};
-ghost use Rattle.game.specs.Ranks.{bits, with-label, without-label};
+ghost use Rattle.game.specs.Ranks.{bits, set-label};
 ghost use Rattle.labelset.specs.Bits.{has-bit};
 
 // How many labels there are.
@@ -35,55 +37,47 @@ pub fn contains(set: u64, label: u8) -> bool
 
 fn put_bit(set: u64, label: u8) -> u64
     requires { ⌜ label < 64 ⌝ }
-    ensures { λ r. ⌜ ((l : ℕ) → has-bit r l ≡ with-label (has-bit set) label l) ⌝ }
+    ensures { λ r. ⌜ ((l : ℕ) → has-bit r l ≡ (eqb label l || has-bit set l)) ⌝ }
 {
     (1 << label) | set
 }
 
 fn clear_bit(set: u64, label: u8) -> u64
     requires { ⌜ label < 64 ⌝ }
-    ensures { λ r. ⌜ ((l : ℕ) → has-bit r l ≡ without-label (has-bit set) label l) ⌝ }
+    ensures { λ r. ⌜ ((l : ℕ) → has-bit r l ≡ (not (eqb label l) && has-bit set l)) ⌝ }
 {
     let mask = 1 << label;
     mask ^ (mask | set)
 }
 
-fn insert_low(set: u64, label: u8) -> u64
-    ensures value { λ r. ⌜ r ≡ bits (with-label (has-bit set) label) 64 ⌝ }
-    ensures labels { λ r. ⌜ (label < 64 → (l : ℕ) → has-bit r l ≡ with-label (has-bit set) label l) ⌝ }
+fn put_low(set: u64, label: u8, member: bool) -> u64
+    requires { ⌜ label < 64 ⌝ }
+    ensures { λ r. ⌜ ((l : ℕ) → has-bit r l ≡ set-label (has-bit set) label member l) ⌝ }
 {
-    if label < LABELS {
+    if member {
         put_bit(set, label)
     } else {
-        set
+        clear_bit(set, label)
     }
 }
 
-// The set with the label; one at or above 64 cannot be put in.
-pub fn insert(set: u64, label: u8) -> u64
-    ensures value { λ r. ⌜ r ≡ bits (with-label (has-bit set) label) 64 ⌝ }
-    ensures labels { λ r. ⌜ (label < 64 → (l : ℕ) → has-bit r l ≡ with-label (has-bit set) label l) ⌝ }
-{
-    insert_low(set, label)
-}
-
-fn remove_low(set: u64, label: u8) -> u64
-    ensures value { λ r. ⌜ r ≡ bits (without-label (has-bit set) label) 64 ⌝ }
-    ensures labels { λ r. ⌜ (label < 64 → (l : ℕ) → has-bit r l ≡ without-label (has-bit set) label l) ⌝ }
+fn put_or_none(set: u64, label: u8, member: bool) -> u64
+    ensures value { λ r. ⌜ r ≡ bits (set-label (has-bit set) label member) 64 ⌝ }
+    ensures labels { λ r. ⌜ (label < 64 → (l : ℕ) → has-bit r l ≡ set-label (has-bit set) label member l) ⌝ }
 {
     if label < LABELS {
-        clear_bit(set, label)
+        put_low(set, label, member)
     } else {
         set
     }
 }
 
-// The set without the label.
-pub fn remove(set: u64, label: u8) -> u64
-    ensures value { λ r. ⌜ r ≡ bits (without-label (has-bit set) label) 64 ⌝ }
-    ensures labels { λ r. ⌜ (label < 64 → (l : ℕ) → has-bit r l ≡ without-label (has-bit set) label l) ⌝ }
+// The set with the label in it, or out of it. One at or above 64 is in no set.
+pub fn put(set: u64, label: u8, member: bool) -> u64
+    ensures value { λ r. ⌜ r ≡ bits (set-label (has-bit set) label member) 64 ⌝ }
+    ensures labels { λ r. ⌜ (label < 64 → (l : ℕ) → has-bit r l ≡ set-label (has-bit set) label member l) ⌝ }
 {
-    remove_low(set, label)
+    put_or_none(set, label, member)
 }
 
 fn ones(set: u64) -> u32

@@ -9,7 +9,7 @@ use Rattle.std.specs.declared.result.Result.{Result}
 use Rattle.std.specs.declared.result.Result.the-variants.{Ok, Err}
 use Rattle.game.specs.Meaning.{Meaning, done, feasible}
 use Rattle.game.specs.Search.{first-below, count-below, highest}
-use Rattle.game.specs.Ranks.{Bars, with-label, without-label, rank, choice, witness-by}
+use Rattle.game.specs.Ranks.{Bars, set-label, rank, choice, witness-by}
 use Rattle.law.specs.declared.Fault.{Fault}
 use Rattle.law.specs.declared.Fault.the-variants.{NotStart, NoState, NoLabel, NotFeasible, NoRun, RunOpen, RunOver, OtherTurn, NoPlan, NoRank}
 use Rattle.law.specs.declared.Verdict.{Verdict}
@@ -99,12 +99,9 @@ rating m ρ s = rating-at m ρ s (ρ .rank s)
 abbrev pub rate-answer : Meaning → Ranking → Bool → ℕ → Result Rating Fault
 rate-answer m ρ planned s = refuse-if (not (ltb s (m .size))) NoState (refuse-if (not planned) NoPlan (Ok (rating m ρ s)))
 
--- bar and lift: how many labels are then barred
-abbrev pub bar-answer : Meaning → Bars → ℕ → Result ℕ Fault
-bar-answer m b x = refuse-if (not (ltb x (m .ceiling))) NoLabel (Ok (count-below (with-label b x) 64))
-
-abbrev pub lift-answer : Meaning → Bars → ℕ → Result ℕ Fault
-lift-answer m b x = refuse-if (not (ltb x (m .ceiling))) NoLabel (Ok (count-below (without-label b x) 64))
+-- bar and lift, which put label x into the set or take it out: how many labels are then barred
+abbrev pub change-answer : Meaning → Bars → ℕ → Bool → Result ℕ Fault
+change-answer m b x member = refuse-if (not (ltb x (m .ceiling))) NoLabel (Ok (count-below (set-label b x member) 64))
 
 -- look: a run is over where its position is done
 abbrev pub over-at : Meaning → Option ℕ → Bool

@@ -18,7 +18,7 @@ use Rattle.law.specs.declared.Fault.{Fault}
 use Rattle.law.specs.declared.Verdict.the-variants.{Held, Lost}
 use Rattle.law.specs.declared.Rating.the-variants.{LostPublic}
 use Rattle.law.specs.Checks.{first-fault, Sound}
-use Rattle.law.specs.Answers.{ranking, plan-verdict, plan-answer, open-answer, reply-answer, report-answer, rate-answer, bar-answer, lift-answer, look-answer, leave-answer}
+use Rattle.law.specs.Answers.{ranking, plan-verdict, plan-answer, open-answer, reply-answer, report-answer, rate-answer, change-answer, look-answer, leave-answer}
 use Rattle.law.specs.Log.{Log, accepted, barred, changes, stands, position, accepted-moves, refusals, breaks-off}
 
 -- a result as the answer that a list of calls shows
@@ -36,8 +36,8 @@ answer m L (Open s) = answered Opened (open-answer m (ranking m (barred L)) (sta
 answer m L Reply = answered replied (reply-answer m (ranking m (barred L)) (stands L) (position m L))
 answer m L (Report l) = answered Reported (report-answer m (position m L) l)
 answer m L (Rate s) = answered Rated (rate-answer m (ranking m (barred L)) (stands L) s)
-answer m L (Bar x) = answered Barred (bar-answer m (barred L) x)
-answer m L (Lift x) = answered Barred (lift-answer m (barred L) x)
+answer m L (Bar x) = answered Barred (change-answer m (barred L) x true)
+answer m L (Lift x) = answered Barred (change-answer m (barred L) x false)
 answer m L Look = Seen (look-answer m (position m L) (bits (barred L) 64) (stands L) (min (refusals L) 4294967295))
 answer m L Leave = answered Left (leave-answer (position m L))
 

@@ -17,7 +17,7 @@ use Rattle.std.specs.declared.result.Result.{Result}
 use Rattle.std.specs.declared.result.Result.the-variants.{Ok, Err}
 use Rattle.game.specs.Meaning.{Meaning, Lawful, done, feasible}
 use Rattle.game.specs.Search.{count-below}
-use Rattle.game.specs.Ranks.{Bars, bits, with-label, without-label, rank, choice}
+use Rattle.game.specs.Ranks.{Bars, bits, set-label, rank, choice}
 use Rattle.game.specs.Final.{Final}
 use Rattle.game.proofs.Searches.{count-equal}
 use Rattle.game.proofs.Winning.{final}
@@ -30,7 +30,7 @@ use Rattle.law.specs.declared.Call.the-variants.{Plan, Open, Reply, Report, Rat
 use Rattle.law.specs.declared.Answer.{Answer}
 use Rattle.law.specs.declared.Answer.the-variants.{Planned, Opened, Replied, Reported, Rated, Barred, Seen, Left, Refused}
 use Rattle.law.specs.Checks.{first-fault}
-use Rattle.law.specs.Answers.{Ranking, ranking, refuse-if, or-fault, plan-verdict, plan-answer, open-answer, reply-answer, report-answer, rate-answer, rating, bar-answer, lift-answer, look-answer, leave-answer, over-at}
+use Rattle.law.specs.Answers.{Ranking, ranking, refuse-if, or-fault, plan-verdict, plan-answer, open-answer, reply-answer, report-answer, rate-answer, rating, change-answer, look-answer, leave-answer, over-at}
 use Rattle.law.specs.Log.{Entry, Log, accepted, says, barred, changes, is-plan, position, refusals, stands, behind, moved, answered-label}
 use Rattle.law.specs.Law.{answered, replied, answer, Kept, Relies}
 use Rattle.law.proofs.Laws.{law, same-bars, report-to, sound-unblocked}
@@ -41,7 +41,7 @@ use Rattle.solver.specs.declared.Cell.{Cell}
 use Rattle.solver.specs.Cells.{cell-at, ranking-in, Solved}
 use Rattle.watch.specs.declared.Memory.{Memory}
 use Rattle.watch.specs.declared.Table.{Table}
-use Rattle.watch.specs.Memory.{bars-of, ranking-of, counted, moved-to, with-bars, with-plan, after, AfterPlan, replied-to, barred-too, lifted}
+use Rattle.watch.specs.Memory.{bars-of, ranking-of, counted, moved-to, with-bars, with-plan, after, AfterPlan, replied-to, changed, agree, change-call}
 use Rattle.watch.specs.Lived.{Shows, Lived, entry, Extends, logged, log-of}
 
 -- solved cells say the ranks and choices
@@ -174,29 +174,45 @@ module _ (m : Meaning) (ok : Lawful m) where
       (quiet-shows L d Look (Seen _) (d .position) (record { no-label = λ x. refl; no-plan = refl; no-change = λ b. refl }) sh refl (sh .at-position))
 
   -- Bar and lift
-  bar-right : (d : Memory) (x : ℕ) (L : Log) → Lived m L d → answered Barred (bar-answer m (bars-of d) x) ≡ answer m L (Bar x)
+  change-right : (d : Memory) (member : Bool) (x : ℕ) (L : Log) → Lived m L d → answered Barred (change-answer m (bars-of d) x member) ≡ answer m L (change-call member x)
   unfolding answer
-  bar-right d x L old = ap (λ b. answered Barred (bar-answer m b x)) (fun-ext (old .shows .bars-are))
+  change-right d true x L old = ap (λ b. answered Barred (change-answer m b x true)) (fun-ext (old .shows .bars-are))
+  change-right d false x L old = ap (λ b. answered Barred (change-answer m b x false)) (fun-ext (old .shows .bars-are))
 
-  lift-right : (d : Memory) (x : ℕ) (L : Log) → Lived m L d → answered Barred (lift-answer m (bars-of d) x) ≡ answer m L (Lift x)
-  unfolding answer
-  lift-right d x L old = ap (λ b. answered Barred (lift-answer m b x)) (fun-ext (old .shows .bars-are))
-
-  said : (x l : ℕ) (old : Bool) → (eqb x l || old) ≡ valueOr (cond (eqb x l) (Some true) None) old
-  said x l old = go (eqb x l)
+  -- what such a call says of a label, and whether it changes the set
+  said : (member : Bool) (x l : ℕ) (old : Bool) → cond (eqb x l) member old ≡ valueOr (says (change-call member x) l) old
+  said true x l old = go (eqb x l)
     where
-      go : (t : Bool) → (t || old) ≡ valueOr (cond t (Some true) None) old
+      go : (t : Bool) → cond t true old ≡ valueOr (cond t (Some true) None) old
+      go true = refl
+      go false = refl
+  said false x l old = go (eqb x l)
+    where
+      go : (t : Bool) → cond t false old ≡ valueOr (cond t (Some false) None) old
       go true = refl
       go false = refl
 
-  unsaid : (x l : ℕ) (old : Bool) → (not (eqb x l) && old) ≡ valueOr (cond (eqb x l) (Some false) None) old
-  unsaid x l old = go (eqb x l)
+  stays : (member : Bool) (x : ℕ) (b : Bars) → agree (b x) member ≡ not (changes b (change-call member x))
+  stays true x b = go (b x)
     where
-      go : (t : Bool) → (not t && old) ≡ valueOr (cond t (Some false) None) old
+      go : (t : Bool) → agree t true ≡ not (not t)
+      go true = refl
+      go false = refl
+  stays false x b = go (b x)
+    where
+      go : (t : Bool) → agree t false ≡ not t
       go true = refl
       go false = refl
 
-  -- a bar or lift that is accepted has a label below the ceiling
+  no-plan-call : (member : Bool) (x : ℕ) → is-plan (change-call member x) ≡ false
+  no-plan-call true x = refl
+  no-plan-call false x = refl
+
+  no-move : (member : Bool) (x : ℕ) (a : Answer) (p : Option ℕ) → moved m (change-call member x) a p ≡ p
+  no-move true x a p = refl
+  no-move false x a p = refl
+
+  -- a change that is accepted has a label below the ceiling
   label-low : (x : ℕ) (r : Result ℕ Fault) (a : ℕ) → refuse-if (not (ltb x (m .ceiling))) NoLabel r ≡ Ok a → x < m .ceiling
   label-low x r a e = go (ltb x (m .ceiling)) refl e
     where
@@ -205,24 +221,17 @@ module _ (m : Meaning) (ok : Lawful m) where
       go false is h = let z : _≡_ {A = ℕ} 0 1 = cc in absurd (omega arith)
 
   -- the set that a change leaves is told by the number that holds it
-  pub bar-extends : (d : Memory) (x : ℕ) → (x < m .ceiling → (n : ℕ) × (n < 2 ^ 64) × ((l : ℕ) → has-bit n l ≡ with-label (bars-of d) x l) × (n ≡ bits (with-label (bars-of d) x) 64)) → Extends m d (Bar x) (answered Barred (bar-answer m (bars-of d) x)) (after (bar-answer m (bars-of d) x) d (barred-too d x))
-  bar-extends d x has = by-result d (barred-too d x) (Bar x) Barred _ (bar-right d x) (λ a L e old.
+  pub change-extends : (d : Memory) (x : ℕ) (member : Bool) → (x < m .ceiling → (n : ℕ) × (n < 2 ^ 64) × ((l : ℕ) → has-bit n l ≡ set-label (bars-of d) x member l) × (n ≡ bits (set-label (bars-of d) x member) 64)) → Extends m d (change-call member x) (answered Barred (change-answer m (bars-of d) x member)) (after (change-answer m (bars-of d) x member) d (changed d x member))
+  change-extends d x member has = by-result d (changed d x member) (change-call member x) Barred _ (change-right d member x) (λ a L e old.
       let sh = old .shows in
       let (n, fits, each, number) = has (label-low x _ a e) in
-      let now′ : (l : ℕ) → bars-of (barred-too d x) l ≡ valueOr (says (Bar x) l) (barred L l) = λ l. ap (λ k. has-bit k l) (sym number) ∙ each l ∙ ap (λ t. eqb x l || t) (sh .bars-are l) ∙ said x l (barred L l) in
-      let plan-is : (d .planned && bars-of d x) ≡ (stands L && not (not (barred L x))) = ap (λ t. t && bars-of d x) (sh .plan) ∙ ap (λ t. stands L && t) (sh .bars-are x ∙ not-not (barred L x)) in
-      accepted-shows L d (barred-too d x) (Bar x) (Barred a) sh refl now′ (subst (λ k. k < 2 ^ 64) number fits) (sh .at-position) plan-is
-      (λ st. let both = and-parts (stands L) _ st in subst (λ b. Solved m b (d .table .cells)) (sym (fun-ext (λ l. same-bars m ok (barred L) (Bar x) (ap not (not-not (barred L x) ∙ both .1)) l))) (sh .table-is (both .0)))
-      refl)
-
-  pub lift-extends : (d : Memory) (x : ℕ) → (x < m .ceiling → (n : ℕ) × (n < 2 ^ 64) × ((l : ℕ) → has-bit n l ≡ without-label (bars-of d) x l) × (n ≡ bits (without-label (bars-of d) x) 64)) → Extends m d (Lift x) (answered Barred (lift-answer m (bars-of d) x)) (after (lift-answer m (bars-of d) x) d (lifted d x))
-  lift-extends d x has = by-result d (lifted d x) (Lift x) Barred _ (lift-right d x) (λ a L e old.
-      let sh = old .shows in
-      let (n, fits, each, number) = has (label-low x _ a e) in
-      let now′ : (l : ℕ) → bars-of (lifted d x) l ≡ valueOr (says (Lift x) l) (barred L l) = λ l. ap (λ k. has-bit k l) (sym number) ∙ each l ∙ ap (λ t. not (eqb x l) && t) (sh .bars-are l) ∙ unsaid x l (barred L l) in
-      let plan-is : (d .planned && not (bars-of d x)) ≡ (stands L && not (barred L x)) = ap (λ t. t && not (bars-of d x)) (sh .plan) ∙ ap (λ t. stands L && not t) (sh .bars-are x) in
-      accepted-shows L d (lifted d x) (Lift x) (Barred a) sh refl now′ (subst (λ k. k < 2 ^ 64) number fits) (sh .at-position) plan-is
-      (λ st. let both = and-parts (stands L) _ st in subst (λ b. Solved m b (d .table .cells)) (sym (fun-ext (λ l. same-bars m ok (barred L) (Lift x) (not-true _ (both .1)) l))) (sh .table-is (both .0)))
+      let call : Call = change-call member x in
+      let now′ : (l : ℕ) → bars-of (changed d x member) l ≡ valueOr (says call l) (barred L l) = λ l. ap (λ k. has-bit k l) (sym number) ∙ each l ∙ ap (cond (eqb x l) member) (sh .bars-are l) ∙ said member x l (barred L l) in
+      let on : (is-plan call || (stands L && not (changes (barred L) call))) ≡ (stands L && not (changes (barred L) call)) = ap (λ t. t || (stands L && not (changes (barred L) call))) (no-plan-call member x) in
+      let plan-is : (d .planned && agree (bars-of d x) member) ≡ (is-plan call || (stands L && not (changes (barred L) call))) =
+            ap (λ t. t && agree (bars-of d x) member) (sh .plan) ∙ ap (λ t. stands L && agree t member) (sh .bars-are x) ∙ ap (λ t. stands L && t) (stays member x (barred L)) ∙ sym on in
+      accepted-shows L d (changed d x member) call (Barred a) sh refl now′ (subst (λ k. k < 2 ^ 64) number fits) (sh .at-position ∙ sym (no-move member x (Barred a) (position m L))) plan-is
+      (λ st. let both = and-parts (stands L) _ (sym on ∙ st) in subst (λ b. Solved m b (d .table .cells)) (sym (fun-ext (λ l. same-bars m ok (barred L) call (not-true _ (both .1)) l))) (sh .table-is (both .0)))
       refl)
 
   -- Plan

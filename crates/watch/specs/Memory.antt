@@ -7,9 +7,11 @@ use Rattle.std.specs.declared.option.Option.the-variants.{None, Some}
 use Rattle.std.specs.declared.result.Result.{Result}
 use Rattle.std.specs.declared.result.Result.the-variants.{Ok, Err}
 use Rattle.game.specs.Meaning.{Meaning}
-use Rattle.game.specs.Ranks.{Bars, bits, with-label, without-label}
+use Rattle.game.specs.Ranks.{Bars, bits, set-label}
 use Rattle.law.specs.declared.Fault.{Fault}
 use Rattle.law.specs.declared.Verdict.{Verdict}
+use Rattle.law.specs.declared.Call.{Call}
+use Rattle.law.specs.declared.Call.the-variants.{Bar, Lift}
 use Rattle.law.specs.Answers.{Ranking}
 use Rattle.law.specs.Log.{behind}
 use Rattle.labelset.specs.Bits.{has-bit}
@@ -56,9 +58,15 @@ abbrev pub replied-to : Meaning → Memory → Result (ℕ × ℕ) Fault → Opt
 replied-to m d (Ok x) = behind m (d .position) (x .0)
 replied-to m d (Err f) = None
 
--- bar puts the label in, and the plan stays if it was in; lift takes it out, and the plan stays if it was not in
-abbrev pub barred-too : Memory → ℕ → Memory
-barred-too d x = with-bars d (with-label (bars-of d) x) (bars-of d x)
+abbrev pub agree : Bool → Bool → Bool
+agree true t = t
+agree false t = not t
 
-abbrev pub lifted : Memory → ℕ → Memory
-lifted d x = with-bars d (without-label (bars-of d) x) (not (bars-of d x))
+-- bar puts the label in and lift takes it out; the plan stays if that changes nothing
+abbrev pub changed : Memory → ℕ → Bool → Memory
+changed d x member = with-bars d (set-label (bars-of d) x member) (agree (bars-of d x) member)
+
+-- the call that puts a label into the set of bars, or takes it out
+abbrev pub change-call : Bool → ℕ → Call
+change-call true x = Bar x
+change-call false x = Lift x

@@ -1,6 +1,6 @@
 // The watch: it plans over a game, answers the public move by move, and may be asked nine calls in any order.
 ghost use mathlib.Core.Path.{_≡_};
-ghost use mathlib.Core.Bool.{not};
+ghost use mathlib.Core.Bool.{not, true, false};
 ghost use mathlib.Core.List.{[]};
 ghost use Rattle.std.specs.Options.{isSome, mapped, valueOr};
 ghost use Rattle.std.specs.Vec.{made};
@@ -10,10 +10,10 @@ ghost use Rattle.game.specs.Ranks.{leads-to, witness-by};
 ghost use Rattle.law.specs.declared.Call.the-variants.{Plan, Open, Reply, Report, Rate, Bar, Lift, Look, Leave};
 ghost use Rattle.law.specs.declared.Answer.the-variants.{Planned, Opened, Reported, Rated, Barred, Seen, Left};
 ghost use Rattle.law.specs.Checks.{first-fault};
-ghost use Rattle.law.specs.Answers.{plan-answer, plan-verdict, open-answer, reply-answer, chosen-move, report-answer, rating, rate-answer, bar-answer, lift-answer, look-answer, over-at, leave-answer};
+ghost use Rattle.law.specs.Answers.{plan-answer, plan-verdict, open-answer, reply-answer, chosen-move, report-answer, rating, rate-answer, change-answer, look-answer, over-at, leave-answer};
 ghost use Rattle.law.specs.Log.{behind};
 ghost use Rattle.law.specs.Law.{answered, replied};
-ghost use Rattle.watch.specs.Memory.{bars-of, ranking-of, counted, moved-to, after, AfterPlan, replied-to, barred-too, lifted};
+ghost use Rattle.watch.specs.Memory.{bars-of, ranking-of, counted, moved-to, after, AfterPlan, replied-to, changed, change-call, agree};
 ghost use Rattle.solver.specs.Cells.{cell-at, ranking-in};
 ghost use Rattle.watch.specs.Lived.{Lived, Extends};
 use game::Game;
@@ -267,40 +267,43 @@ impl<G: Game> Watch<G> {
         self.finish(answer, stay)
     }
 
-    // Bars a label to the kiosk, and answers how many are barred. The plan falls if the set changes.
-    pub fn bar(&mut self, label: u8) -> Result<u32, Fault>
+    // Puts a label into the set of bars or takes it out, and answers how many are then in it. The plan falls if the set
+    // changes.
+    fn change_bar(&mut self, label: u8, member: bool) -> Result<u32, Fault>
         ensures same { λ _. ⌜ now (self .exit) .game ≡ now (self .entry) .game ⌝ }
-        ensures value { λ r. ⌜ r ≡ bar-answer (meaning (now (self .entry) .game)) (bars-of (now (self .entry) .memory)) label ⌝ }
-        ensures after { λ r. ⌜ now (self .exit) .memory ≡ after r (now (self .entry) .memory) (barred-too (now (self .entry) .memory) label) ⌝ }
-        ensures extends { λ r. ⌜ Extends (meaning (now (self .entry) .game)) (now (self .entry) .memory) (Bar label) (answered Barred r) (now (self .exit) .memory) ⌝ }
+        ensures value { λ r. ⌜ r ≡ change-answer (meaning (now (self .entry) .game)) (bars-of (now (self .entry) .memory)) label member ⌝ }
+        ensures after { λ r. ⌜ now (self .exit) .memory ≡ after r (now (self .entry) .memory) (changed (now (self .entry) .memory) label member) ⌝ }
+        ensures extends { λ r. ⌜ Extends (meaning (now (self .entry) .game)) (now (self .entry) .memory) (change-call member label) (answered Barred r) (now (self .exit) .memory) ⌝ }
     {
         if label >= self.game.labels() {
             count(&mut self.memory);
             return Err(Fault::NoLabel);
         }
-        let was = labelset::contains(self.memory.bars, label);
-        let bars = labelset::insert(self.memory.bars, label);
+        let stays = agree(labelset::contains(self.memory.bars, label), member);
+        let bars = labelset::put(self.memory.bars, label, member);
         self.memory.bars = bars;
-        self.memory.planned = self.memory.planned & was;
+        self.memory.planned = self.memory.planned & stays;
         Ok(labelset::size(bars))
     }
 
-    // Lifts a bar, and answers how many labels are barred. The plan falls if the set changes.
+    // Bars a label to the kiosk, and answers how many are barred.
+    pub fn bar(&mut self, label: u8) -> Result<u32, Fault>
+        ensures same { λ _. ⌜ now (self .exit) .game ≡ now (self .entry) .game ⌝ }
+        ensures value { λ r. ⌜ r ≡ change-answer (meaning (now (self .entry) .game)) (bars-of (now (self .entry) .memory)) label true ⌝ }
+        ensures after { λ r. ⌜ now (self .exit) .memory ≡ after r (now (self .entry) .memory) (changed (now (self .entry) .memory) label true) ⌝ }
+        ensures extends { λ r. ⌜ Extends (meaning (now (self .entry) .game)) (now (self .entry) .memory) (Bar label) (answered Barred r) (now (self .exit) .memory) ⌝ }
+    {
+        self.change_bar(label, true)
+    }
+
+    // Lifts the bar of a label, and answers how many are still barred.
     pub fn lift(&mut self, label: u8) -> Result<u32, Fault>
         ensures same { λ _. ⌜ now (self .exit) .game ≡ now (self .entry) .game ⌝ }
-        ensures value { λ r. ⌜ r ≡ lift-answer (meaning (now (self .entry) .game)) (bars-of (now (self .entry) .memory)) label ⌝ }
-        ensures after { λ r. ⌜ now (self .exit) .memory ≡ after r (now (self .entry) .memory) (lifted (now (self .entry) .memory) label) ⌝ }
+        ensures value { λ r. ⌜ r ≡ change-answer (meaning (now (self .entry) .game)) (bars-of (now (self .entry) .memory)) label false ⌝ }
+        ensures after { λ r. ⌜ now (self .exit) .memory ≡ after r (now (self .entry) .memory) (changed (now (self .entry) .memory) label false) ⌝ }
         ensures extends { λ r. ⌜ Extends (meaning (now (self .entry) .game)) (now (self .entry) .memory) (Lift label) (answered Barred r) (now (self .exit) .memory) ⌝ }
     {
-        if label >= self.game.labels() {
-            count(&mut self.memory);
-            return Err(Fault::NoLabel);
-        }
-        let was = labelset::contains(self.memory.bars, label);
-        let bars = labelset::remove(self.memory.bars, label);
-        self.memory.bars = bars;
-        self.memory.planned = self.memory.planned & !was;
-        Ok(labelset::size(bars))
+        self.change_bar(label, false)
     }
 
     // Whether the position is at the public's turn.
@@ -356,6 +359,12 @@ impl<G: Game> Watch<G> {
         let answer = self.judge_leave();
         self.finish(answer, None)
     }
+}
+
+fn agree(a: bool, b: bool) -> bool
+    ensures { λ r. ⌜ r ≡ agree a b ⌝ }
+{
+    if a { b } else { !b }
 }
 
 // One refusal more; the count stays at its highest value once there.
