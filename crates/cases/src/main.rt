@@ -1,10 +1,14 @@
 // Stored sheets, each answered as planlist answers it.
+use listing::list;
+use nim::Nim;
+use nim::NimGame;
 use sheet::Move;
 use sheet::Row;
 use std::alloc::Global;
 use std::error::AnyError;
 use std::fs;
 use std::io::Write;
+use watch::Watch;
 
 // Answers over this length are told by their first line, their length and how many lines they have.
 const LONG: usize = 200;
@@ -126,6 +130,24 @@ fn round_trip(rt: &LibcRuntime, name: &str) -> Result<(), AnyError> {
     tell(rt, name, &out[0..end])
 }
 
+// Fibonacci Nim: the verdict and how many kiosk states its plan meets, or the number of the refusal.
+fn nim(rt: &LibcRuntime, matches: usize) -> Result<(), AnyError> {
+    let mut watch = Watch::new(Nim { matches });
+    if let Err(fault) = watch.plan() {
+        let number = fault.number();
+        println!(rt, "nim {matches}: refused {number}")?;
+        return Ok(());
+    }
+    let mut out = vec![in rt.alloc(); 0u8; planner::ROOM]?;
+    let end = list(&watch, out.as_mut_slice()).unwrap_or(0);
+    let end = end.min(out.len());
+    let lines = count_lines(&out[0..end]).saturating_sub(1);
+    print!(rt, "nim {matches}: ")?;
+    rt.stdout().write_all(first_line(&out[0..end]))?;
+    println!(rt, ", {lines} lines")?;
+    Ok(())
+}
+
 fn main(rt: LibcRuntime) -> Result<(), AnyError> {
     for name in [
         "house",
@@ -162,6 +184,9 @@ fn main(rt: LibcRuntime) -> Result<(), AnyError> {
     cut_everywhere(&rt, "house")?;
     for name in ["house", "one", "named", "lost", "limit", "chain"] {
         round_trip(&rt, name)?;
+    }
+    for matches in [2, 4, 15, 45] {
+        nim(&rt, matches)?;
     }
     Ok(())
 }

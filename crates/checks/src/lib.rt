@@ -21,11 +21,12 @@ fn is_feasible<G: Game>(game: &G, s: usize, l: u8) -> bool
 fn has_feasible<G: Game>(game: &G, s: usize) -> bool
     ensures { λ r. ⌜ r ≡ some-below (feasible (meaning (now (game .entry))) s) (meaning (now (game .entry)) .ceiling) ⌝ }
 {
-    let mut some = false;
     for l in 0..game.labels() {
-        some |= is_feasible(game, s, l);
+        if is_feasible(game, s, l) {
+            return true;
+        }
     }
-    some
+    false
 }
 
 // Whether the label is feasible in the state and leads to one at the same turn.
@@ -74,11 +75,12 @@ fn state_fault<G: Game>(game: &G, s: usize) -> Option<Fault>
 fn has_start<G: Game>(game: &G) -> bool
     ensures { λ r. ⌜ r ≡ some-below (meaning (now (game .entry)) .start) (meaning (now (game .entry)) .size) ⌝ }
 {
-    let mut some = false;
     for s in 0..game.size() {
-        some |= game.is_start(s);
+        if game.is_start(s) {
+            return true;
+        }
     }
-    some
+    false
 }
 
 fn states_fault<G: Game>(game: &G) -> Option<Fault>

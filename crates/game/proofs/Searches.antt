@@ -8,7 +8,7 @@ use native.Mathlib.Numerals.{add-one}
 use Rattle.std.specs.Options.{isSome, valueOr}
 use Rattle.std.specs.Orderings.{Decides}
 use Rattle.std.proofs.shelf.Ways.{decides-below-and, decides-below-or}
-use Rattle.std.proofs.shelf.Tests.{eqb-true, eq-eqb, and-from, or-left, cases-bool, cases-lt, cond-true, cond-false, true≢false, false≢true, both-ways}
+use Rattle.std.proofs.shelf.Tests.{eqb-true, eq-eqb, and-from, or-from, cases-bool, cases-lt, cond-true, cond-false, true≢false, false≢true, both-ways}
 use Rattle.std.specs.declared.option.Option.{Option}
 use Rattle.std.specs.declared.option.Option.the-variants.{None, Some}
 use Rattle.game.specs.Ranks.{is, leads-to}
@@ -180,26 +180,17 @@ found p i n e t h =
     let same : got .0 ≡ i = ⊎-elim (λ lt. absurd (both-ways _ (first-none p i e (got .0) lt) (is .passes))) (λ ge. omega (arith, got .2)) (cases-lt (got .0) i) in
     sym (got .1 ∙ ap Some same)
 
-pub some-more : (p : ℕ → Bool) (i : ℕ) (b : Bool) → b ≡ some-below p i → p i ≡ false → b ≡ some-below p (i + 1)
-some-more p i b e f = e ∙ ap (λ x. x || some-below p i) (sym f) ∙ ap (some-below p) (sym (add-one i))
-
-pub some-now : (p : ℕ → Bool) (i : ℕ) → p i ≡ true → true ≡ some-below p (i + 1)
-some-now p i f = sym (ap (some-below p) (add-one i) ∙ or-left (p i) _ f)
-
 pub all-more : (p : ℕ → Bool) (i : ℕ) → all-below p i ≡ true → p i ≡ true → all-below p (i + 1) ≡ true
 all-more p i e f = ap (all-below p) (add-one i) ∙ and-from (p i) _ f e
 
 pub all-fails : (p : ℕ → Bool) (i n : ℕ) → i < n → p i ≡ false → all-below p n ≡ false
 all-fails p i n h f = ⊎-elim (λ t. absurd (both-ways _ f (all-decides p n .0 t i h))) (λ no′. no′) (cases-bool (all-below p n))
 
-pub some-step : (p : ℕ → Bool) (i : ℕ) (b : Bool) → b ≡ some-below p i → (b || p i) ≡ some-below p (i + 1)
-some-step p i b e = swap b (p i) ∙ ap (λ x. p i || x) e ∙ ap (some-below p) (sym (add-one i))
-  where
-    swap : (x y : Bool) → (x || y) ≡ (y || x)
-    swap true true = refl
-    swap true false = refl
-    swap false true = refl
-    swap false false = refl
+pub some-none-more : (p : ℕ → Bool) (i : ℕ) → some-below p i ≡ false → p i ≡ false → some-below p (i + 1) ≡ false
+some-none-more p i e f = ap (some-below p) (add-one i) ∙ or-from (p i) (some-below p i) f e
+
+pub some-found : (p : ℕ → Bool) (i n : ℕ) → i < n → p i ≡ true → true ≡ some-below p n
+some-found p i n h e = sym (some-decides p n .1 (i, h, e))
 
 pub first-of-more : {A : Type 0} (f : ℕ → Option A) (i : ℕ) → first-of f i ≡ None → f i ≡ None → first-of f (i + 1) ≡ None
 first-of-more f i e n = ap (first-of f) (add-one i) ∙ ap (λ o. or-else o (f i)) e ∙ n
