@@ -37,7 +37,10 @@ fn sum(cells: &[Cell]) -> u32 {
 
 // The nanoseconds of one solution.
 fn time_solve<G: Game>(rt: &LibcRuntime, game: &G, times: u32) -> Result<u128, AnyError> {
-    let mut cells = vec![in rt.alloc(); Cell { rank: None, choice: None }; 4096]?;
+    let mut cells = vec![in rt.alloc(); Cell {
+        rank: None,
+        choice: None
+    }; 4096]?;
     let start = Instant::now(rt)?;
     for _ in 0..times {
         let _ = solver::solve(game, 0, cells.as_mut_slice());

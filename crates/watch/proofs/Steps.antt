@@ -229,7 +229,7 @@ module _ (m : Meaning) (ok : Lawful m) where
       let now′ : (l : ℕ) → bars-of (changed d x member) l ≡ valueOr (says call l) (barred L l) = λ l. ap (λ k. has-bit k l) (sym number) ∙ each l ∙ ap (cond (eqb x l) member) (sh .bars-are l) ∙ said member x l (barred L l) in
       let on : (is-plan call || (stands L && not (changes (barred L) call))) ≡ (stands L && not (changes (barred L) call)) = ap (λ t. t || (stands L && not (changes (barred L) call))) (no-plan-call member x) in
       let plan-is : (d .planned && agree (bars-of d x) member) ≡ (is-plan call || (stands L && not (changes (barred L) call))) =
-            ap (λ t. t && agree (bars-of d x) member) (sh .plan) ∙ ap (λ t. stands L && agree t member) (sh .bars-are x) ∙ ap (λ t. stands L && t) (stays member x (barred L)) ∙ sym on in
+      ap (λ t. t && agree (bars-of d x) member) (sh .plan) ∙ ap (λ t. stands L && agree t member) (sh .bars-are x) ∙ ap (λ t. stands L && t) (stays member x (barred L)) ∙ sym on in
       accepted-shows L d (changed d x member) call (Barred a) sh refl now′ (subst (λ k. k < 2 ^ 64) number fits) (sh .at-position ∙ sym (no-move member x (Barred a) (position m L))) plan-is
       (λ st. let both = and-parts (stands L) _ (sym on ∙ st) in subst (λ b. Solved m b (d .table .cells)) (sym (fun-ext (λ l. same-bars m ok (barred L) call (not-true _ (both .1)) l))) (sh .table-is (both .0)))
       refl)

@@ -52,7 +52,7 @@ returns g c =
     let value′ : Ok (c .size .result) ≡ right = ap Ok many ∙ ap (λ b. refuse-if (not b) NoLabel (Ok (count-below (set-label (bars-of d) x t) 64))) (sym (lt-ltb x (m .ceiling) low)) in
     let kept : c .agree-stays .result ≡ agree (bars-of d x) t = c .agree-stays .ensures ∙ ap (λ b. agree b t) (c .contains .ensures) in
     let left : _≡_ {A = Memory} (record { bars = n; position = d .position; planned = d .planned && c .agree-stays .result; refusals = d .refusals; table = d .table }) (changed d x t) =
-          λ i. record { bars = c .put-bars .ensures .value i; position = d .position; planned = d .planned && kept i; refusals = d .refusals; table = d .table } in
+    λ i. record { bars = c .put-bars .ensures .value i; position = d .position; planned = d .planned && kept i; refusals = d .refusals; table = d .table } in
     record {
       same = refl;
       value = value′;

@@ -1,0 +1,7 @@
+mod Answered
+mod Back
+mod Lines
+mod Numerals
+mod Parts
+mod Transcripts
+mod Words
