@@ -11,7 +11,7 @@ use Rattle.records.specs.declared.SheetFault.the-variants.{Record}
 use Rattle.sheet.specs.declared.Row.{Row}
 use Rattle.sheet.specs.declared.Move.{Move}
 use Rattle.format.specs.declared.WriteFault.the-variants.{Size, Unsound, Room}
-use Rattle.format.specs.Tables.{zero-row, zero-move}
+use Rattle.sheet.specs.Sheets.{zero-row, zero-move}
 use Rattle.format.specs.Reading.{read-result}
 use Rattle.format.specs.Writing.{write-result}
 

@@ -23,7 +23,8 @@ use Rattle.format.specs.declared.Counts.{Counts}
 use Rattle.format.specs.declared.WriteFault.{WriteFault}
 use Rattle.format.specs.declared.WriteFault.the-variants.{Size, Unsound, Room}
 use Rattle.format.specs.Format.{State, Sheet, Fits, encode}
-use Rattle.format.specs.Tables.{rows-of, moves-of, placed, counted, sheet-in, state-in, relocated, move-of, zero-row, zero-move}
+use Rattle.format.specs.Tables.{rows-of, moves-of, placed, counted, sheet-in, state-in, relocated, move-of}
+use Rattle.sheet.specs.Sheets.{zero-row, zero-move}
 use Rattle.format.specs.Reading.{reading, filled, read-result}
 use Rattle.format.specs.Writing.{first-unsound, write-result, unless, fitted, over}
 use Rattle.format.specs.Laws.{Encodes, loaded, ReadExactly, Unique, WritesBack, ReadsBack, Restores}

@@ -14,7 +14,8 @@ use Rattle.sheet.specs.declared.Move.{Move}
 use Rattle.format.specs.declared.Counts.{Counts}
 use Rattle.format.specs.declared.WriteFault.{WriteFault}
 use Rattle.format.specs.Format.{Sheet, Fits, encode}
-use Rattle.format.specs.Tables.{rows-of, moves-of, state-in, relocated, zero-row, zero-move}
+use Rattle.format.specs.Tables.{rows-of, moves-of, state-in, relocated}
+use Rattle.sheet.specs.Sheets.{zero-row, zero-move}
 use Rattle.format.specs.Reading.{read-result}
 use Rattle.format.specs.Writing.{write-result, over}
 

@@ -20,7 +20,8 @@ use Rattle.sheet.specs.declared.Move.{Move}
 use Rattle.format.specs.declared.Arc.{Arc}
 use Rattle.format.specs.declared.Counts.{Counts}
 use Rattle.format.specs.Format.{above-last}
-use Rattle.format.specs.Tables.{zero-row, zero-move, move-of, counted}
+use Rattle.format.specs.Tables.{move-of, counted}
+use Rattle.sheet.specs.Sheets.{zero-row, zero-move}
 
 -- a fault of a record is one of the sheet
 abbrev pub in-sheet : {A : Type 0} → Result A RecordFault → Result A SheetFault

@@ -3,4 +3,3 @@ pub mod Walking
 pub mod Texts
 pub mod Bound
 pub mod Right
-pub mod Planned

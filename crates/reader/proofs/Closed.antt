@@ -21,7 +21,8 @@ use Rattle.sheet.specs.declared.Row.{Row}
 use Rattle.format.specs.declared.Arc.{Arc}
 use Rattle.format.specs.declared.Counts.{Counts}
 use Rattle.format.specs.Format.{State, Sheet, ArcFits}
-use Rattle.format.specs.Tables.{zero-row, zero-move, move-of, own, lower, placed, counted}
+use Rattle.format.specs.Tables.{move-of, own, lower, placed, counted}
+use Rattle.sheet.specs.Sheets.{zero-row, zero-move}
 use Rattle.format.specs.Reading.{head-size, states-from, moves-from, reading, filled, read-result}
 use Rattle.format.proofs.Fields.{next-ok}
 use Rattle.format.proofs.Whole.{read-encoded, states-here}

@@ -16,7 +16,8 @@ use Rattle.std.proofs.shelf.Ways.{tells}
 use Rattle.sheet.specs.declared.Row.{Row}
 use Rattle.sheet.specs.declared.Move.{Move}
 use Rattle.format.specs.declared.Arc.{Arc}
-use Rattle.format.specs.Tables.{zero-row, move-of, own, lower, counted}
+use Rattle.format.specs.Tables.{move-of, own, lower, counted}
+use Rattle.sheet.specs.Sheets.{zero-row}
 use Rattle.reader.specs.Stored.{storing, numbered, count-one, more, count-of, with-first}
 
 plus : ℕ → Row → Row

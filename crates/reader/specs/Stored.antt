@@ -16,7 +16,8 @@ use Rattle.sheet.specs.declared.Move.{Move}
 use Rattle.sheet.specs.declared.Row.{Row}
 use Rattle.format.specs.declared.Arc.{Arc}
 use Rattle.format.specs.declared.Counts.{Counts}
-use Rattle.format.specs.Tables.{zero-row, zero-move, move-of}
+use Rattle.format.specs.Tables.{move-of}
+use Rattle.sheet.specs.Sheets.{zero-row, zero-move}
 use Rattle.format.specs.Reading.{head-size, states-from, moves-from}
 
 -- the entries read so far, with where the next record begins

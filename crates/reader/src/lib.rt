@@ -6,7 +6,7 @@ ghost use Rattle.std.specs.Vec.{made};
 ghost use Rattle.std.specs.shelf.Lists.{sumBy};
 ghost use Rattle.std.specs.declared.option.Option.the-variants.{None};
 ghost use Rattle.format.specs.Format.{above-last};
-ghost use Rattle.format.specs.Tables.{zero-row, zero-move};
+ghost use Rattle.sheet.specs.Sheets.{zero-row, zero-move};
 ghost use Rattle.format.specs.Reading.{head-size, state-row, states-from, tail-at, moves-from, read-result};
 ghost use Rattle.format.specs.Laws.{ReadExactly, Unique, WritesBack};
 ghost use Rattle.reader.specs.Stored.{shown-filled, stored, shown-stored, source-below, count-of, numbered, tables-after, shown-all};

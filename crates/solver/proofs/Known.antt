@@ -1,5 +1,5 @@
 -- The ranks below a bound, and when none is missing.
-use mathlib.Core.Path.{_≡_, refl, sym, ap, _∙_}
+use mathlib.Core.Path.{_≡_, refl, sym, ap, _∙_, fun-ext}
 use mathlib.Core.Bool.{Bool, true, false, not, cond, _&&_, _||_}
 use mathlib.Core.List.{List, [], _∷_}
 use mathlib.Core.Logic.{_⊎_, inl, inr, ⊎-elim}
@@ -18,8 +18,9 @@ use Rattle.game.proofs.Searches.{some-first, same-first, first-none, first-some
 use Rattle.game.proofs.Layers.{Layer, l-done, l-kiosk, l-public, stays, nowhere, within-of, within-done, within-more, ranked}
 use Rattle.game.proofs.Rules.{within-le}
 use Rattle.game.proofs.Winning.{choice-layer, public-choice}
+use Rattle.law.specs.Answers.{ranking}
 use Rattle.solver.specs.declared.Cell.{Cell}
-use Rattle.solver.specs.Cells.{empty, Solved}
+use Rattle.solver.specs.Cells.{Solved, empty, ranking-in}
 use Rattle.solver.specs.Known.{under, known, cell, cell-of, picked, settled, Filled}
 
 pub rank-of-cell : (m : Meaning) (b : Bars) (s : ℕ) (o : Option ℕ) → cell-of m b s o .rank ≡ o
@@ -136,3 +137,7 @@ pub past-end : {A : Type 0} (xs : List A) (i : ℕ) (d : A) → length xs ≤ i 
 past-end [] i d h = refl
 past-end (x ∷ xs) zero d h = absurd (omega arith)
 past-end (x ∷ xs) (suc i) d h = past-end xs i d (omega arith)
+
+-- solved cells say the ranks and choices
+pub solved-ranking : (m : Meaning) (b : Bars) (cells : List Cell) → Solved m b cells → ranking-in cells ≡ ranking m b
+solved-ranking m b cells h i = record { rank = fun-ext (λ s. ap (λ c. c .rank) (h s)) i; choice = fun-ext (λ s. ap (λ c. c .choice) (h s)) i }

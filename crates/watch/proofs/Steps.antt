@@ -38,15 +38,12 @@ use Rattle.law.proofs.Checked.{no-fault-sound}
 use Rattle.labelset.specs.Bits.{has-bit}
 use Rattle.labelset.proofs.Bits.{bits-same, bits-back, whole-set}
 use Rattle.solver.specs.declared.Cell.{Cell}
+use Rattle.solver.proofs.Known.{solved-ranking}
 use Rattle.solver.specs.Cells.{cell-at, ranking-in, Solved}
 use Rattle.watch.specs.declared.Memory.{Memory}
 use Rattle.watch.specs.declared.Table.{Table}
 use Rattle.watch.specs.Memory.{bars-of, ranking-of, counted, moved-to, with-bars, with-plan, after, AfterPlan, replied-to, changed, agree, change-call}
 use Rattle.watch.specs.Lived.{Shows, Lived, entry, Extends, logged, log-of}
-
--- solved cells say the ranks and choices
-solved-ranking : (m : Meaning) (b : Bars) (cells : List Cell) → Solved m b cells → ranking-in cells ≡ ranking m b
-solved-ranking m b cells h i = record { rank = fun-ext (λ s. ap (λ c. c .rank) (h s)) i; choice = fun-ext (λ s. ap (λ c. c .choice) (h s)) i }
 
 and-true : (x : Bool) → x ≡ (x && true)
 and-true true = refl

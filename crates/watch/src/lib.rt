@@ -6,7 +6,7 @@ ghost use Rattle.std.specs.Options.{isSome, mapped, valueOr};
 ghost use Rattle.std.specs.Vec.{made};
 ghost use Rattle.std.specs.declared.option.Option.the-variants.{None, Some};
 ghost use Rattle.game.specs.Final.{Final};
-ghost use Rattle.game.specs.Ranks.{leads-to, witness-by};
+ghost use Rattle.game.specs.Ranks.{leads-to, rank, witness-by};
 ghost use Rattle.law.specs.declared.Call.the-variants.{Plan, Open, Reply, Report, Rate, Bar, Lift, Look, Leave};
 ghost use Rattle.law.specs.declared.Answer.the-variants.{Planned, Opened, Reported, Rated, Barred, Seen, Left};
 ghost use Rattle.law.specs.Checks.{first-fault};
@@ -95,7 +95,7 @@ impl<G: Game> Watch<G> {
     // Checks the game, works out ranks and choices under the bars, and makes the plan stand.
     pub fn plan(&mut self) -> Result<Verdict, Fault>
         ensures same { λ _. ⌜ now (self .exit) .game ≡ now (self .entry) .game ⌝ }
-        ensures value { λ r. ⌜ r ≡ plan-answer (first-fault (meaning (now (self .entry) .game))) (plan-verdict (meaning (now (self .entry) .game)) (ranking-of (now (self .exit) .memory) .rank)) ⌝ }
+        ensures value { λ r. ⌜ r ≡ plan-answer (first-fault (meaning (now (self .entry) .game))) (plan-verdict (meaning (now (self .entry) .game)) (rank (meaning (now (self .entry) .game)) (bars-of (now (self .entry) .memory)))) ⌝ }
         ensures after { λ r. ⌜ AfterPlan (meaning (now (self .entry) .game)) (now (self .entry) .memory) r (now (self .exit) .memory) ⌝ }
         ensures extends { λ r. ⌜ Extends (meaning (now (self .entry) .game)) (now (self .entry) .memory) Plan (answered Planned r) (now (self .exit) .memory) ⌝ }
         ensures finality { λ r. ⌜ made r (λ _. Final (meaning (now (self .entry) .game)) (bars-of (now (self .entry) .memory))) ⌝ }

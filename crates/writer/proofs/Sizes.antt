@@ -20,7 +20,8 @@ use Rattle.format.specs.declared.Arc.{Arc}
 use Rattle.format.specs.declared.WriteFault.{WriteFault}
 use Rattle.format.specs.declared.WriteFault.the-variants.{Size, Unsound, Room}
 use Rattle.format.specs.Format.{move-bytes, state-bytes, head-bytes, end-bytes, encode, Fits}
-use Rattle.format.specs.Tables.{zero-row, state-in, arc-of, arcs-of, sheet-in, move-of}
+use Rattle.format.specs.Tables.{state-in, arc-of, arcs-of, sheet-in, move-of}
+use Rattle.sheet.specs.Sheets.{zero-row}
 use Rattle.format.specs.Writing.{moves-sound, row-sound, first-unsound, fitted, write-result, over}
 use Rattle.format.proofs.Whole.{few}
 use Rattle.format.proofs.Tables.{passed, Sound, sound-row, name-length, tables-back}

@@ -5,7 +5,7 @@ use lib.Dec.{leb}
 use Rattle.std.proofs.shelf.Tests.{and-parts, leb-true, cond-true, cond-false}
 use Rattle.law.specs.Answers.{Ranking, ranking}
 use Rattle.listing.specs.Answers.{listed}
-use Rattle.listing.proofs.Planned.{solved-ranking}
+use Rattle.solver.proofs.Known.{solved-ranking}
 use Rattle.listing.proofs.Right.{right}
 use Rattle.listing.proofs.list_cells.Needs as need
 

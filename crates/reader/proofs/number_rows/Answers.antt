@@ -6,7 +6,7 @@ use mathlib.Core.List.{[], _∷_, _++_, append-assoc}
 use Rattle.std.specs.shelf.Lists.{sumBy}
 use Rattle.std.proofs.shelf.Sums.{sumBy-drop-more}
 use Rattle.std.proofs.shelf.Lists.{take-more-set, drop-set-lt, drop-more, drop-all, take-append-drop}
-use Rattle.format.specs.Tables.{zero-row}
+use Rattle.sheet.specs.Sheets.{zero-row}
 use Rattle.reader.specs.Stored.{count-of, numbered, with-first}
 use Rattle.reader.proofs.number_rows.Needs as need
 

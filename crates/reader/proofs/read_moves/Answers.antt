@@ -6,7 +6,7 @@ use native.Mathlib.Omega.{arith}
 use borrow.Author.Needs.{needs}
 use Rattle.std.proofs.shelf.Results.{err-from-errBy}
 use Rattle.std.proofs.shelf.Sums.{sumBy-set, getD-le-sumBy}
-use Rattle.format.specs.Tables.{zero-row}
+use Rattle.sheet.specs.Sheets.{zero-row}
 use Rattle.reader.specs.Stored.{count-of, more}
 use lib.ListN.{getD}
 use Rattle.reader.proofs.Tailing.{moves-fault, moves-end, moves-full, moves-more}

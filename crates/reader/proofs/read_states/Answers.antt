@@ -3,7 +3,7 @@ use native.Mathlib.Omega.{arith}
 use Rattle.std.proofs.shelf.Lists.{take-more-set, drop-set-lt}
 use Rattle.std.proofs.shelf.Results.{err-from-errBy}
 use Rattle.std.proofs.shelf.Sums.{sumBy-set}
-use Rattle.format.specs.Tables.{zero-row}
+use Rattle.sheet.specs.Sheets.{zero-row}
 use Rattle.reader.specs.Stored.{count-of}
 use Rattle.reader.proofs.Steps.{states-more, states-fault}
 use Rattle.reader.proofs.read_states.Needs as need

@@ -5,7 +5,7 @@ use Rattle.std.specs.shelf.Lists.{sumBy}
 use Rattle.std.proofs.shelf.Sums.{sumBy-cons}
 use native.Mathlib.Omega.{arith}
 use borrow.Author.Needs.{needs}
-use Rattle.format.specs.Tables.{zero-row, zero-move}
+use Rattle.sheet.specs.Sheets.{zero-row, zero-move}
 use Rattle.reader.specs.Stored.{count-of, tables-after, ended, shown-all}
 use Rattle.reader.proofs.Closed.{closed}
 use Rattle.reader.proofs.read_tables.Needs as need

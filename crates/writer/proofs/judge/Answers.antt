@@ -11,7 +11,8 @@ use Rattle.std.specs.declared.option.Option.the-variants.{Some, None}
 use Rattle.std.specs.declared.result.Result.the-variants.{Ok}
 use Rattle.sheet.specs.declared.Row.{Row}
 use Rattle.format.specs.Format.{state-bytes}
-use Rattle.format.specs.Tables.{zero-row, state-in}
+use Rattle.format.specs.Tables.{state-in}
+use Rattle.sheet.specs.Sheets.{zero-row}
 use Rattle.format.specs.Writing.{row-sound, first-unsound}
 use Rattle.format.proofs.Tables.{sound-row, name-length}
 use Rattle.writer.specs.Parts.{rows-bytes, verdict}

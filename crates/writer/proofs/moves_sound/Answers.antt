@@ -5,7 +5,7 @@ use mathlib.Core.Bool.{true, false}
 use mathlib.Core.List.{_∷_}
 use mathlib.Core.Path.{_≡_, sym, ap, _∙_}
 use Rattle.std.proofs.shelf.Lists.{at-drop-more, at-drop-all}
-use Rattle.format.specs.Tables.{zero-move}
+use Rattle.sheet.specs.Sheets.{zero-move}
 use Rattle.format.specs.Writing.{moves-sound}
 use Rattle.writer.specs.Parts.{move-sound}
 use Rattle.writer.proofs.Sizes.{sound-more, sound-not}

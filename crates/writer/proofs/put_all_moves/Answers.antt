@@ -4,7 +4,7 @@ use mathlib.Core.List.{_∷_, _++_, []}
 use mathlib.Core.Path.{_≡_, sym, ap, _∙_}
 use native.Mathlib.Omega.{arith}
 use Rattle.std.proofs.shelf.Lists.{drop-all}
-use Rattle.format.specs.Tables.{zero-row}
+use Rattle.sheet.specs.Sheets.{zero-row}
 use Rattle.format.specs.Writing.{put}
 use Rattle.writer.specs.Parts.{moves-bytes, arcs-bytes}
 use Rattle.writer.proofs.Over.{put-put, put-none}

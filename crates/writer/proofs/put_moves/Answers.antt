@@ -5,7 +5,8 @@ use mathlib.Core.Path.{_≡_, sym, ap, _∙_}
 use native.Mathlib.Omega.{arith}
 use Rattle.std.proofs.shelf.Lists.{drop-more, drop-all}
 use Rattle.format.specs.Format.{move-bytes}
-use Rattle.format.specs.Tables.{zero-move, arc-of}
+use Rattle.format.specs.Tables.{arc-of}
+use Rattle.sheet.specs.Sheets.{zero-move}
 use Rattle.format.specs.Writing.{put}
 use Rattle.writer.specs.Parts.{moves-bytes}
 use Rattle.writer.proofs.Over.{put-put, put-none}

@@ -7,7 +7,8 @@ use Rattle.std.specs.shelf.Lists.{List, All}
 use Rattle.std.proofs.shelf.Lists.{drop-more, drop-all}
 use Rattle.sheet.specs.declared.Row.{Row}
 use Rattle.format.specs.Format.{state-bytes}
-use Rattle.format.specs.Tables.{zero-row, state-in}
+use Rattle.format.specs.Tables.{state-in}
+use Rattle.sheet.specs.Sheets.{zero-row}
 use Rattle.format.specs.Writing.{put}
 use Rattle.writer.specs.Parts.{rows-bytes, Named}
 use Rattle.writer.proofs.Over.{put-put, put-none}
