@@ -2,6 +2,7 @@
 use mathlib.Core.Path.{_≡_}
 use mathlib.Core.Bool.{Bool, true, false, not, _&&_}
 use Prim.Native.Nat.{ℕ, _+_, min}
+use lib.ListN.{replicate}
 use Rattle.std.specs.declared.option.Option.{Option}
 use Rattle.std.specs.declared.option.Option.the-variants.{None, Some}
 use Rattle.std.specs.declared.result.Result.{Result}
@@ -15,7 +16,7 @@ use Rattle.law.specs.declared.Call.the-variants.{Bar, Lift}
 use Rattle.law.specs.Answers.{Ranking}
 use Rattle.law.specs.Log.{behind}
 use Rattle.labelset.specs.Bits.{has-bit}
-use Rattle.solver.specs.Cells.{ranking-in, Solved}
+use Rattle.solver.specs.Cells.{empty, ranking-in, Solved}
 use Rattle.watch.specs.declared.Table.{Table}
 use Rattle.watch.specs.declared.Memory.{Memory}
 
@@ -26,6 +27,10 @@ bars-of d = has-bit (d .bars)
 -- what the cells say of each state
 abbrev pub ranking-of : Memory → Ranking
 ranking-of d = ranking-in (d .table .cells)
+
+-- what a new watch holds: no bars, no run, no plan, nothing refused, and empty cells
+abbrev pub new-memory : Memory
+new-memory = record { bars = 0; position = None; planned = false; refusals = 0; table = record { cells = replicate 4096 empty } }
 
 -- one refusal more, up to 4,294,967,295, and nothing else
 abbrev pub counted : Memory → Memory

@@ -13,7 +13,7 @@ ghost use Rattle.law.specs.Checks.{first-fault};
 ghost use Rattle.law.specs.Answers.{plan-answer, plan-verdict, open-answer, reply-answer, chosen-move, report-answer, rating, rate-answer, change-answer, look-answer, over-at, leave-answer};
 ghost use Rattle.law.specs.Log.{behind};
 ghost use Rattle.law.specs.Law.{answered, replied};
-ghost use Rattle.watch.specs.Memory.{bars-of, ranking-of, counted, moved-to, after, AfterPlan, replied-to, changed, change-call, agree};
+ghost use Rattle.watch.specs.Memory.{bars-of, ranking-of, new-memory, counted, moved-to, after, AfterPlan, replied-to, changed, change-call, agree};
 ghost use Rattle.solver.specs.Cells.{cell-at, ranking-in};
 ghost use Rattle.watch.specs.Lived.{Lived, Extends};
 use game::Game;
@@ -57,6 +57,7 @@ impl<G: Game> Watch<G> {
     // A new watch: no bars, no run, no plan, and nothing refused.
     pub fn new(game: G) -> Watch<G>
         ensures same { λ r. ⌜ r .game ≡ game ⌝ }
+        ensures value { λ r. ⌜ r .memory ≡ new-memory ⌝ }
         ensures lived { λ r. ⌜ Lived (meaning game) [] (r .memory) ⌝ }
     {
         let table = Table {
