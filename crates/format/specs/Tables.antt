@@ -9,7 +9,6 @@ use Rattle.sheet.specs.declared.Row.{Row}
 use Rattle.sheet.specs.declared.Move.{Move}
 use Rattle.format.specs.declared.Arc.{Arc}
 use Rattle.format.specs.Format.{State, Sheet}
-
 -- From a sheet to its tables of rows and moves, and back.
 
 use Prim.Native.Nat.{ℕ, _+_}
