@@ -1,5 +1,7 @@
 // Plans the largest games. Without a word it plans each once, and prints the verdict and a sum of all ranks and
 // choices; with a number it plans each so many times, and prints the nanoseconds that one solution and one plan took.
+#![tactic(auto)]
+
 mod cases;
 
 use game::Game;

@@ -1,4 +1,6 @@
 // Stored sheets, each answered as planlist answers it.
+#![tactic(auto)]
+
 use anyhow::anyhow;
 use listing::list;
 use nim::Nim;
@@ -57,7 +59,7 @@ fn answer(rt: &HostRuntime, name: &str) -> anyhow::Result<()> {
 }
 
 fn is_refusal(text: &[u8]) -> bool {
-    count_lines(text) == 1 && text.len() > 7 && &text[0..7] == b"REFUSED"
+    count_lines(text) == 1 && text.len() > 7 && &text[0..7] == b"REFUSED".as_slice()
 }
 
 // A sheet that is cut anywhere is refused in one line.

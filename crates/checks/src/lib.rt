@@ -1,4 +1,6 @@
 // What plan checks of a game before it works out ranks.
+#![tactic(auto)]
+
 ghost use Rattle.std.specs.Prelude.{◌≡◌, not, ◌||◌, ◌==◌, nat_lt};
 ghost use Rattle.game.specs.Meaning.{feasible};
 ghost use Rattle.game.specs.Search.{some_below, first_below, first_of};
@@ -12,13 +14,13 @@ const MOST: usize = 4096;
 
 // Whether the label is feasible in the state.
 fn is_feasible<G: Game>(game: &G, s: usize, l: u8) -> bool
-    ensures { result ≡ feasible (meaning game.now) s l }
+    ensures { result ≡ feasible (G.meaning game.now) s l }
 {
     !game.is_end(s) && game.next(s, l).is_some()
 }
 
 fn has_feasible<G: Game>(game: &G, s: usize) -> bool
-    ensures { result ≡ some_below (feasible (meaning game.now) s) (meaning game.now).ceiling }
+    ensures { result ≡ some_below (feasible (G.meaning game.now) s) (G.meaning game.now).ceiling }
 {
     for l in 0..game.labels() {
         if is_feasible(game, s, l) {
@@ -30,7 +32,7 @@ fn has_feasible<G: Game>(game: &G, s: usize) -> bool
 
 // Whether the label is feasible in the state and leads to one at the same turn.
 fn keeps_turn<G: Game>(game: &G, s: usize, l: u8) -> bool
-    ensures { result ≡ keeps_turn (meaning game.now) s l }
+    ensures { result ≡ keeps_turn (G.meaning game.now) s l }
 {
     if game.is_end(s) {
         return false;
@@ -45,7 +47,7 @@ fn keeps_turn<G: Game>(game: &G, s: usize, l: u8) -> bool
 }
 
 fn first_keeping<G: Game>(game: &G, s: usize) -> Option<u8>
-    ensures { result ≡ first_below (keeps_turn (meaning game.now) s) (meaning game.now).ceiling }
+    ensures { result ≡ first_below (keeps_turn (G.meaning game.now) s) (G.meaning game.now).ceiling }
 {
     for l in 0..game.labels() {
         if keeps_turn(game, s, l) {
@@ -57,7 +59,7 @@ fn first_keeping<G: Game>(game: &G, s: usize) -> Option<u8>
 
 // The first fault of one state.
 fn state_fault<G: Game>(game: &G, s: usize) -> Option<Fault>
-    ensures { result ≡ state_fault (meaning game.now) s }
+    ensures { result ≡ state_fault (G.meaning game.now) s }
 {
     if game.is_start(s) && game.is_public(s) {
         return Some(Fault::PublicStart { state: s });
@@ -72,7 +74,7 @@ fn state_fault<G: Game>(game: &G, s: usize) -> Option<Fault>
 }
 
 fn has_start<G: Game>(game: &G) -> bool
-    ensures { result ≡ some_below (meaning game.now).start (meaning game.now).size }
+    ensures { result ≡ some_below (G.meaning game.now).start (G.meaning game.now).size }
 {
     for s in 0..game.size() {
         if game.is_start(s) {
@@ -83,7 +85,7 @@ fn has_start<G: Game>(game: &G) -> bool
 }
 
 fn states_fault<G: Game>(game: &G) -> Option<Fault>
-    ensures { result ≡ first_of (state_fault (meaning game.now)) (meaning game.now).size }
+    ensures { result ≡ first_of (state_fault (G.meaning game.now)) (G.meaning game.now).size }
 {
     for s in 0..game.size() {
         if let Some(f) = state_fault(game, s) {
@@ -95,7 +97,7 @@ fn states_fault<G: Game>(game: &G) -> Option<Fault>
 
 // Whether the game has a state, and at most as many as a watch has cells.
 fn has_size<G: Game>(game: &G) -> bool
-    ensures { result ≡ not ((meaning game.now).size == 0 || nat_lt 4096 (meaning game.now).size) }
+    ensures { result ≡ not ((G.meaning game.now).size == 0 || nat_lt 4096 (G.meaning game.now).size) }
 {
     let n = game.size();
     n != 0 && n <= MOST
@@ -103,7 +105,7 @@ fn has_size<G: Game>(game: &G) -> bool
 
 // The fault that plan finds first: the size, no start, then state by state.
 pub fn find_fault<G: Game>(game: &G) -> Option<Fault>
-    ensures { result ≡ first_fault (meaning game.now) }
+    ensures { result ≡ first_fault (G.meaning game.now) }
 {
     if !has_size(game) {
         return Some(Fault::Size);

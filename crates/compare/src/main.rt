@@ -1,4 +1,6 @@
 // Compares the watch with the second solver over many games, and prints in how many they agree.
+#![tactic(auto)]
+
 mod agree;
 mod generated;
 mod house;

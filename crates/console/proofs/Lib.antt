@@ -4,4 +4,3 @@ mod Lines
 mod Numerals
 mod Parts
 mod Transcripts
-mod Words

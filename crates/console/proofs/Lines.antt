@@ -1,6 +1,6 @@
 -- Lines found one by one.
 use Rattle.std.proofs.Common.{◌≡◌, ℕ, ◌+◌, ◌-◌, ◌<◌, ◌≤◌, Bool, true, false, cond, eqb, List, [], ◌∷◌, ◌++◌, map, length, get_or, take, drop, Option, sym, refl, ap, ◌∙◌, arith}
-use Rattle.std.proofs.lemmas.List.{length-take, length-drop, get_or-drop, take_all, take_more, at_drop_more, at_drop_all, drop_all}
+use Rattle.std.proofs.lemmas.List.{length-take, length-drop, get_or-drop, take_all, take_more, at_drop_more, at_drop_all}
 use Rattle.law.specs.declared.Call.{Call}
 use Rattle.console.specs.Calls.{call_of}
 use Rattle.console.specs.Conversation.{lines_after, last_line, calls_in}

@@ -91,7 +91,7 @@ fn answer_all<G: Game + Drop>(
     game: G,
     calls: &[Call],
 ) -> Result<Vec<Answer>, AllocError>
-    ensures { IfOk result (λ v. Answered (meaning game) calls.now v.items) }
+    ensures { IfOk result (λ v. Answered (G.meaning game) calls.now v.items) }
 {
     let mut answers = vec![in heap; Answer::Barred(0); calls.len()]?;
     let _ = watch_all(game, calls, answers.as_mut_slice());
@@ -100,7 +100,7 @@ fn answer_all<G: Game + Drop>(
 
 // Asks a new watch over the game the calls in the input, and tells its answers: a line for each line of the input.
 pub fn converse<G: Game + Drop>(heap: Global, game: G, input: &[u8]) -> Result<String, AllocError>
-    ensures { IfOk result (λ t. Conversation (meaning game) input.now (string_bytes t)) }
+    ensures { IfOk result (λ t. Conversation (G.meaning game) input.now (string_bytes t)) }
 {
     let lines = read_calls(heap, input)?;
     let calls = readable(heap, lines.as_slice())?;

@@ -1,4 +1,6 @@
 // The watch at a console: calls read from lines of text, and answers shown as lines.
+#![tactic(auto)]
+
 mod answers;
 mod calls;
 mod conversation;

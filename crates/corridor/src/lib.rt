@@ -1,4 +1,6 @@
 // A corridor of rooms as a game: kiosk and public step on in turns, and the last room is the goal.
+#![tactic(auto)]
+
 ghost use Rattle.std.specs.Prelude.{◌≡◌};
 ghost use Rattle.corridor.specs.Corridors.{corridor_meaning, is_last};
 ghost use Rattle.corridor.specs.CorridorLaws.{corridor_lawful};

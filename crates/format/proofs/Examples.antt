@@ -1,11 +1,11 @@
 -- Small sheets read and written, by computation.
 
-use Rattle.std.proofs.Common.{◌≡◌, ℕ, List, [], ◌∷◌, replicate, Some, None, Ok, Err, refl}
+use Rattle.std.proofs.Common.{◌≡◌, ℕ, List, [], ◌∷◌, replicate, Ok, Err, refl}
 use Rattle.records.specs.declared.RecordFault.TheVariants.{Byte}
 use Rattle.records.specs.declared.SheetFault.TheVariants.{Record}
 use Rattle.sheet.specs.declared.Row.{Row}
 use Rattle.sheet.specs.declared.Move.{Move}
-use Rattle.format.specs.declared.WriteFault.TheVariants.{Size, Unsound, Room}
+use Rattle.format.specs.declared.WriteFault.TheVariants.{Unsound, Room}
 use Rattle.sheet.specs.Sheets.{zero_row, zero_move}
 use Rattle.format.specs.Reading.{read_result}
 use Rattle.format.specs.Writing.{write_result}

@@ -1,4 +1,6 @@
 // The format of a sheet: what its bytes and its tables stand for, and the laws that bind the two.
+#![tactic(auto)]
+
 ghost use Rattle.std.specs.Prelude.{◌≡◌};
 ghost use Rattle.format.specs.Faults.{number_of, row_named};
 

@@ -1,5 +1,5 @@
 -- No strategy does better than the ranks, and the choices do as well.
-use Rattle.std.proofs.Common.{◌≡◌, ℕ, zero, suc, ◌+◌, ◌<◌, ◌≤◌, Bool, true, false, not, ◌&&◌, ◌⊎◌, List, [], ◌∷◌, length, is_some, Some, None, Option, sym, refl, ap, ◌∙◌, inl, inr, ⊎_elim, arith}
+use Rattle.std.proofs.Common.{◌≡◌, ℕ, zero, suc, ◌+◌, ◌<◌, ◌≤◌, Bool, true, false, not, ◌&&◌, List, [], ◌∷◌, length, is_some, Some, None, Option, sym, refl, ap, ◌∙◌, inl, inr, ⊎_elim, arith}
 use Rattle.std.proofs.lemmas.Bool.{cases_Bool, cond-true, cond-false, and_parts, and_from, both_ways, not-true, not_from_false, or_left, or_right, or_cases}
 use Rattle.game.specs.Meaning.{Meaning, Lawful, done, Step}
 use Rattle.game.specs.Ranks.{Bars, leads_to, lowest_label, within, rank, is, choice, choice_at, witness, LowestOfBest}

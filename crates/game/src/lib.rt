@@ -1,4 +1,6 @@
 // The interface of games, and the theory of their ranks and strategies.
+#![tactic(auto)]
+
 ghost use Rattle.std.specs.Prelude.{◌≡◌};
 ghost use Rattle.game.specs.Meaning.{Meaning, Lawful, done};
 
@@ -41,7 +43,7 @@ pub trait Game {
 
 // Whether a run that stands at the state is over: a goal that is at the kiosk's turn or an end.
 pub fn is_done<G: Game>(game: &G, state: usize) -> bool
-    ensures { result ≡ done (meaning game.now) state }
+    ensures { result ≡ done (G.meaning game.now) state }
 {
     game.is_goal(state) && (!game.is_public(state) || game.is_end(state))
 }

@@ -1,5 +1,5 @@
 -- The bits of a set of labels.
-use Rattle.std.proofs.Common.{◌≡◌, ℕ, zero, suc, ◌+◌, ◌-◌, ◌*◌, ◌/◌, ◌%◌, ◌^◌, ◌<◌, ◌≤◌, max, Bool, true, false, cond, not, ◌&&◌, ◌||◌, eqb, ◌⊎◌, sym, refl, ap, ◌∙◌, ⊎_elim, one-mul, zero-mul, add-one, one-add, arith, pow_mono}
+use Rattle.std.proofs.Common.{◌≡◌, ℕ, zero, suc, ◌+◌, ◌-◌, ◌*◌, ◌/◌, ◌%◌, ◌^◌, ◌<◌, ◌≤◌, max, Bool, true, false, cond, not, ◌&&◌, ◌||◌, eqb, sym, refl, ap, ◌∙◌, ⊎_elim, one-mul, zero-mul, add-one, one-add, arith, pow_mono}
 use lib.Bits.{shifted_even, bit_or, bit_xor, or_step, xor_step, or_shr, xor_shr, differ}
 use lib.Count.{ones, ones_cat}
 use Rattle.game.specs.Ranks.{bits, set_label}
@@ -23,8 +23,8 @@ max_bit (suc (suc p)) (suc q) h k = absurd (omega arith)
 max_bit zero (suc (suc q)) h k = absurd (omega arith)
 max_bit (suc zero) (suc (suc q)) h k = absurd (omega arith)
 
-pub bit_or : (a b x : ℕ) → has_bit (bit_or a b) x ≡ (has_bit a x || has_bit b x)
-bit_or a b x = ap (λ n. eqb (n % 2) 1) (or_shr a b x) ∙ ap (λ n. eqb n 1) (or_low (a / 2 ^ x) (b / 2 ^ x)) ∙ max_bit ((a / 2 ^ x) % 2) ((b / 2 ^ x) % 2) (omega arith) (omega arith)
+pub has_bit_or : (a b x : ℕ) → has_bit (bit_or a b) x ≡ (has_bit a x || has_bit b x)
+has_bit_or a b x = ap (λ n. eqb (n % 2) 1) (or_shr a b x) ∙ ap (λ n. eqb n 1) (or_low (a / 2 ^ x) (b / 2 ^ x)) ∙ max_bit ((a / 2 ^ x) % 2) ((b / 2 ^ x) % 2) (omega arith) (omega arith)
 
 pub bit_one : (l x : ℕ) → has_bit (2 ^ l) x ≡ eqb l x
 bit_one l x =

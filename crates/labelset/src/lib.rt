@@ -1,4 +1,6 @@
 // A set of labels below 64 as the bits of one number.
+#![tactic(auto)]
+
 ghost use Rattle.std.specs.Prelude.{◌≡◌, ℕ, ◌<◌, not, ◌&&◌, ◌||◌, ◌==◌};
 ghost use Rattle.game.specs.Search.{count_below};
 ghost use Rattle.game.specs.Ranks.{bits, set_label};

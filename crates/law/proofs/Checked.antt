@@ -111,7 +111,7 @@ module _ (m : Meaning) (ok : Lawful m) where
         some_start = started two.0;
         kiosk_starts = λ s st. (sound s (start_inside m ok s st)).kiosk_start st;
         has_moves = λ s lt. (sound s lt).has_move;
-        turns_alternate = λ s l t st. (sound s (step_inside m ok s l t st.1).0).turn_alternates l t st;
+        turns_alternate = λ s l t st. (sound s (step_inside m ok s l t st)).turn_alternates l t st;
       }
 
   pub sound_no_fault : Sound m → first_fault m ≡ None

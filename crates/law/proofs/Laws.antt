@@ -1,5 +1,5 @@
 -- Every list of calls with right answers may be relied on.
-use Rattle.std.proofs.Common.{◌≡◌, ℕ, zero, suc, ◌+◌, ◌≤◌, Bool, true, false, cond, not, ◌&&◌, eqb, ◌⊎◌, List, [], ◌∷◌, ◌++◌, is_some, Some, None, Ok, Option, Result, unwrap_or, sym, refl, ap, ◌∙◌, subst, inl, inr, ⊎_elim, arith}
+use Rattle.std.proofs.Common.{◌≡◌, ℕ, zero, suc, ◌+◌, ◌≤◌, Bool, true, false, cond, not, ◌&&◌, eqb, List, [], ◌∷◌, ◌++◌, is_some, Some, None, Ok, Option, Result, unwrap_or, sym, refl, ap, ◌∙◌, subst, inl, inr, ⊎_elim, arith}
 use mathlib.Core.Path.{fun_ext}
 use Rattle.std.proofs.lemmas.Bool.{cases_Bool, cond-true, cond-false, and_parts, and_from, or_cases, or_right, not-true, not-false, not_from_false, not_from_true, both_ways, lt-ltb, eqb-true}
 use Rattle.game.specs.Meaning.{Meaning, Lawful, done, feasible, Step}
@@ -25,7 +25,7 @@ use Rattle.law.specs.Law.{answered, replied, answer, Kept, Would, PlanIsFinal, U
 use Rattle.game.proofs.Meanings.{start_inside, public_inside, step_feasible, feasible_step}
 use Rattle.game.proofs.Searches.{none_some, same_some, option_cases, first_none, first_all, highest_ge, highest_le, first_is, some_is}
 use Rattle.game.proofs.Rules.{zero_done, goes_on}
-use Rattle.game.proofs.Winning.{no_strategy_better, choices_win, done_goal, choice_has, choice_is, public_down, witness_has, witness_wins, final}
+use Rattle.game.proofs.Winning.{no_strategy_better, done_goal, choice_has, choice_is, public_down, witness_has, witness_wins, final}
 use Rattle.law.proofs.Checked.{no_fault_sound, sound_no_fault}
 
 pub sound_unblocked : (m : Meaning) → Lawful m → Sound m → Unblocked m

@@ -1,4 +1,6 @@
 // What a watch is asked and answers, and the law of every list of calls.
+#![tactic(auto)]
+
 ghost use Rattle.std.specs.Prelude.{◌≡◌};
 ghost use Rattle.law.specs.Faults.{number_of, named_state, named_label};
 

@@ -2,7 +2,7 @@
 use Rattle.std.proofs.Common.{◌≡◌, ℕ, zero, suc, ◌*◌, ◌<◌, ◌≤◌, Bool, true, false, cond, [], length, Some, None, codes, Option, refl, arith, length-append}
 use Rattle.game.specs.Meaning.{Meaning, Lawful}
 use Rattle.game.specs.Search.{first_below, highest}
-use Rattle.game.specs.Ranks.{Bars, rank, choice}
+use Rattle.game.specs.Ranks.{Bars}
 use Rattle.game.proofs.Searches.{first_is, highest_le, none_some}
 use Rattle.game.proofs.Layers.{rank_is}
 use Rattle.game.proofs.Meanings.{label_low}

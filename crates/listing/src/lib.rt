@@ -1,4 +1,6 @@
 // The listing of a plan: its verdict, and the lines of the states that plays by its choices reach.
+#![tactic(auto)]
+
 ghost use Rattle.std.specs.Prelude.{◌≡◌, ◌≤◌, true, length, codes};
 ghost use Rattle.game.specs.Ranks.{Bars};
 ghost use Rattle.law.specs.Answers.{ranking};
@@ -50,18 +52,18 @@ impl ListFault {
 // Writes the listing of the watch's plan, and answers its length; bytes beyond it are kept. Refused without a standing
 // plan, then where the output is too short; a refusal leaves the output as found. Nothing in the watch moves.
 pub fn list<G: Game>(watch: &Watch<G>, out: &mut [u8]) -> Result<usize, ListFault>
-    ensures value { (result, out.new) ≡ listed (meaning watch.now.game) (ranking_of watch.now.memory) watch.now.memory.planned out.old }
-    ensures lived { (L : Log) → Lived (meaning watch.now.game) L watch.now.memory → (result, out.new) ≡ listed (meaning watch.now.game) (ranking (meaning watch.now.game) (barred L)) (stands L) out.old }
-    ensures standing { (L : Log) → Lived (meaning watch.now.game) L watch.now.memory → stands L ≡ true → (result, out.new) ≡ put_whole (listing_text (meaning watch.now.game) (ranking (meaning watch.now.game) (barred L))) out.old }
-    ensures right { (b : Bars) → Right (meaning watch.now.game) b }
+    ensures value { (result, out.new) ≡ listed (G.meaning watch.now.game) (ranking_of watch.now.memory) watch.now.memory.planned out.old }
+    ensures lived { (L : Log) → Lived (G.meaning watch.now.game) L watch.now.memory → (result, out.new) ≡ listed (G.meaning watch.now.game) (ranking (G.meaning watch.now.game) (barred L)) (stands L) out.old }
+    ensures standing { (L : Log) → Lived (G.meaning watch.now.game) L watch.now.memory → stands L ≡ true → (result, out.new) ≡ put_whole (listing_text (G.meaning watch.now.game) (ranking (G.meaning watch.now.game) (barred L))) out.old }
+    ensures right { (b : Bars) → Right (G.meaning watch.now.game) b }
 {
     list_watch(watch, out)
 }
 
 fn list_watch<G: Game>(watch: &Watch<G>, out: &mut [u8]) -> Result<usize, ListFault>
-    ensures value { (result, out.new) ≡ listed (meaning watch.now.game) (ranking_of watch.now.memory) watch.now.memory.planned out.old }
-    ensures lived { (L : Log) → Lived (meaning watch.now.game) L watch.now.memory → (result, out.new) ≡ listed (meaning watch.now.game) (ranking (meaning watch.now.game) (barred L)) (stands L) out.old }
-    ensures right { (b : Bars) → Right (meaning watch.now.game) b }
+    ensures value { (result, out.new) ≡ listed (G.meaning watch.now.game) (ranking_of watch.now.memory) watch.now.memory.planned out.old }
+    ensures lived { (L : Log) → Lived (G.meaning watch.now.game) L watch.now.memory → (result, out.new) ≡ listed (G.meaning watch.now.game) (ranking (G.meaning watch.now.game) (barred L)) (stands L) out.old }
+    ensures right { (b : Bars) → Right (G.meaning watch.now.game) b }
 {
     list_cells(watch.game(), watch.cells(), watch.is_planned(), out)
 }
@@ -74,9 +76,9 @@ fn list_cells<G: Game>(
     planned: bool,
     out: &mut [u8],
 ) -> Result<usize, ListFault>
-    ensures value { (result, out.new) ≡ listed (meaning game.now) (ranking_in cells.now) planned out.old }
-    ensures solved { (b : Bars) → Solved (meaning game.now) b cells.now → (result, out.new) ≡ listed (meaning game.now) (ranking (meaning game.now) b) planned out.old }
-    ensures right { (b : Bars) → Right (meaning game.now) b }
+    ensures value { (result, out.new) ≡ listed (G.meaning game.now) (ranking_in cells.now) planned out.old }
+    ensures solved { (b : Bars) → Solved (G.meaning game.now) b cells.now → (result, out.new) ≡ listed (G.meaning game.now) (ranking (G.meaning game.now) b) planned out.old }
+    ensures right { (b : Bars) → Right (G.meaning game.now) b }
 {
     if planned & (game.size() <= 4096) {
         list_plan(game, cells, out)
@@ -86,8 +88,8 @@ fn list_cells<G: Game>(
 }
 
 fn list_plan<G: Game>(game: &G, cells: &[Cell], out: &mut [u8]) -> Result<usize, ListFault>
-    requires { (meaning game.now).size ≤ 4096 }
-    ensures { (result, out.new) ≡ put_whole (listing_text (meaning game.now) (ranking_in cells.now)) out.old }
+    requires { (G.meaning game.now).size ≤ 4096 }
+    ensures { (result, out.new) ≡ put_whole (listing_text (G.meaning game.now) (ranking_in cells.now)) out.old }
 {
     match verdict(game, cells) {
         Verdict::Held(top) => list_held(game, cells, top, out),
@@ -111,8 +113,8 @@ fn list_held<G: Game>(
     top: u32,
     out: &mut [u8],
 ) -> Result<usize, ListFault>
-    requires { (meaning game.now).size ≤ 4096 }
-    ensures { (result, out.new) ≡ put_whole (text_after (meaning game.now) (ranking_in cells.now) (Held top)) out.old }
+    requires { (G.meaning game.now).size ≤ 4096 }
+    ensures { (result, out.new) ≡ put_whole (text_after (G.meaning game.now) (ranking_in cells.now) (Held top)) out.old }
 {
     let walk = reach(game, cells);
     let width = count_width(b"HELD ", top as u64) + lines_width(game, cells, &walk);

@@ -22,7 +22,7 @@ pub(crate) struct Entry {
 // Whether a state is reached, at the kiosk's turn, and not done. A kiosk state is done if it is a goal.
 fn has_line<G: Game>(game: &G, walk: &Walk, s: usize) -> bool
     requires { s < 4096 }
-    ensures { result ≡ (marked walk.now.seen s && (not ((meaning game.now).public s) && not (done (meaning game.now) s))) }
+    ensures { result ≡ (marked walk.now.seen s && (not ((G.meaning game.now).public s) && not (done (G.meaning game.now) s))) }
 {
     walk.seen[s] & !game.is_public(s) & !game.is_goal(s)
 }
@@ -45,8 +45,8 @@ fn entry_in(cells: &[Cell], s: usize) -> Option<Entry>
 // The entry of a state that has a line.
 fn entry_of<G: Game>(game: &G, cells: &[Cell], walk: &Walk, s: usize) -> Option<Entry>
     requires state { s < 4096 }
-    requires walked { Marked (meaning game.now) (ranking_in cells.now) walk.now.seen }
-    ensures { result ≡ entry_of (meaning game.now) (ranking_in cells.now) s }
+    requires walked { Marked (G.meaning game.now) (ranking_in cells.now) walk.now.seen }
+    ensures { result ≡ entry_of (G.meaning game.now) (ranking_in cells.now) s }
 {
     if has_line(game, walk, s) {
         entry_in(cells, s)
@@ -67,9 +67,9 @@ fn entry_width(entry: Option<Entry>) -> usize
 
 // The length of all lines.
 pub(crate) fn lines_width<G: Game>(game: &G, cells: &[Cell], walk: &Walk) -> usize
-    requires few { (meaning game.now).size ≤ 4096 }
-    requires walked { Marked (meaning game.now) (ranking_in cells.now) walk.now.seen }
-    ensures value { result ≡ length (lines_below (meaning game.now) (ranking_in cells.now) (meaning game.now).size) }
+    requires few { (G.meaning game.now).size ≤ 4096 }
+    requires walked { Marked (G.meaning game.now) (ranking_in cells.now) walk.now.seen }
+    ensures value { result ≡ length (lines_below (G.meaning game.now) (ranking_in cells.now) (G.meaning game.now).size) }
     ensures few { result ≤ 4096 * 63 }
 {
     let mut width = 0;
@@ -102,9 +102,9 @@ fn put_state<G: Game>(
     s: usize,
 ) -> usize
     requires state { s < 4096 }
-    requires walked { Marked (meaning game.now) (ranking_in cells.now) walk.now.seen }
-    requires room { at + length (line_of (meaning game.now) (ranking_in cells.now) s) ≤ length out.old }
-    ensures { Written out.old at (line_of (meaning game.now) (ranking_in cells.now) s) result out.new }
+    requires walked { Marked (G.meaning game.now) (ranking_in cells.now) walk.now.seen }
+    requires room { at + length (line_of (G.meaning game.now) (ranking_in cells.now) s) ≤ length out.old }
+    ensures { Written out.old at (line_of (G.meaning game.now) (ranking_in cells.now) s) result out.new }
 {
     put_entry(out, at, entry_of(game, cells, walk, s))
 }
@@ -117,10 +117,10 @@ pub(crate) fn put_lines<G: Game>(
     out: &mut [u8],
     at: usize,
 ) -> usize
-    requires few { (meaning game.now).size ≤ 4096 }
-    requires walked { Marked (meaning game.now) (ranking_in cells.now) walk.now.seen }
-    requires room { at + length (lines_below (meaning game.now) (ranking_in cells.now) (meaning game.now).size) ≤ length out.old }
-    ensures { Written out.old at (lines_below (meaning game.now) (ranking_in cells.now) (meaning game.now).size) result out.new }
+    requires few { (G.meaning game.now).size ≤ 4096 }
+    requires walked { Marked (G.meaning game.now) (ranking_in cells.now) walk.now.seen }
+    requires room { at + length (lines_below (G.meaning game.now) (ranking_in cells.now) (G.meaning game.now).size) ≤ length out.old }
+    ensures { Written out.old at (lines_below (G.meaning game.now) (ranking_in cells.now) (G.meaning game.now).size) result out.new }
 {
     let mut end = at;
     for s in 0..game.size() {

@@ -22,7 +22,7 @@ fn is_choice(cells: &[Cell], s: usize, label: u8) -> bool
 
 // Where a label leads in plays by the choices.
 fn target<G: Game>(game: &G, cells: &[Cell], s: usize, label: u8) -> Option<usize>
-    ensures { result ≡ follow (meaning game.now) (ranking_in cells.now) s label }
+    ensures { result ≡ follow (G.meaning game.now) (ranking_in cells.now) s label }
 {
     if !game.is_end(s) & (game.is_public(s) | is_choice(cells, s, label)) {
         game.next(s, label)
@@ -50,12 +50,12 @@ fn visit(walk: &mut Walk, t: usize)
 
 // Follows one label of a state that is reached.
 fn step<G: Game>(game: &G, cells: &[Cell], walk: &mut Walk, s: usize, label: u8)
-    requires few { (meaning game.now).size ≤ 4096 }
-    requires from { Reaches (meaning game.now) (ranking_in cells.now) s }
-    requires before { Walking (meaning game.now) (ranking_in cells.now) walk.old.queue walk.old.seen walk.old.tail }
-    ensures walking { Walking (meaning game.now) (ranking_in cells.now) walk.new.queue walk.new.seen walk.new.tail }
+    requires few { (G.meaning game.now).size ≤ 4096 }
+    requires from { Reaches (G.meaning game.now) (ranking_in cells.now) s }
+    requires before { Walking (G.meaning game.now) (ranking_in cells.now) walk.old.queue walk.old.seen walk.old.tail }
+    ensures walking { Walking (G.meaning game.now) (ranking_in cells.now) walk.new.queue walk.new.seen walk.new.tail }
     ensures later { Later walk.old.queue walk.old.seen walk.old.tail walk.new.queue walk.new.seen walk.new.tail }
-    ensures followed { (t : ℕ) → follow (meaning game.now) (ranking_in cells.now) s label ≡ Some t → marked walk.new.seen t ≡ true }
+    ensures followed { (t : ℕ) → follow (G.meaning game.now) (ranking_in cells.now) s label ≡ Some t → marked walk.new.seen t ≡ true }
 {
     if let Some(t) = target(game, cells, s, label) {
         visit(walk, t);
@@ -64,12 +64,12 @@ fn step<G: Game>(game: &G, cells: &[Cell], walk: &mut Walk, s: usize, label: u8)
 
 // Follows every label of a state that is reached.
 fn expand<G: Game>(game: &G, cells: &[Cell], walk: &mut Walk, s: usize)
-    requires few { (meaning game.now).size ≤ 4096 }
-    requires from { Reaches (meaning game.now) (ranking_in cells.now) s }
-    requires before { Walking (meaning game.now) (ranking_in cells.now) walk.old.queue walk.old.seen walk.old.tail }
-    ensures walking { Walking (meaning game.now) (ranking_in cells.now) walk.new.queue walk.new.seen walk.new.tail }
+    requires few { (G.meaning game.now).size ≤ 4096 }
+    requires from { Reaches (G.meaning game.now) (ranking_in cells.now) s }
+    requires before { Walking (G.meaning game.now) (ranking_in cells.now) walk.old.queue walk.old.seen walk.old.tail }
+    ensures walking { Walking (G.meaning game.now) (ranking_in cells.now) walk.new.queue walk.new.seen walk.new.tail }
     ensures later { Later walk.old.queue walk.old.seen walk.old.tail walk.new.queue walk.new.seen walk.new.tail }
-    ensures followed { Followed (meaning game.now) (ranking_in cells.now) walk.new.seen s }
+    ensures followed { Followed (G.meaning game.now) (ranking_in cells.now) walk.new.seen s }
 {
     for label in 0..game.labels() {
         step(game, cells, walk, s, label);
@@ -78,12 +78,12 @@ fn expand<G: Game>(game: &G, cells: &[Cell], walk: &mut Walk, s: usize)
 
 // Visits a state if it is a start.
 fn begin_at<G: Game>(game: &G, walk: &mut Walk, s: usize)
-    requires few { (meaning game.now).size ≤ 4096 }
-    requires state { s < (meaning game.now).size }
-    requires before { (ρ : Ranking) → Walking (meaning game.now) ρ walk.old.queue walk.old.seen walk.old.tail }
-    ensures walking { (ρ : Ranking) → Walking (meaning game.now) ρ walk.new.queue walk.new.seen walk.new.tail }
+    requires few { (G.meaning game.now).size ≤ 4096 }
+    requires state { s < (G.meaning game.now).size }
+    requires before { (ρ : Ranking) → Walking (G.meaning game.now) ρ walk.old.queue walk.old.seen walk.old.tail }
+    ensures walking { (ρ : Ranking) → Walking (G.meaning game.now) ρ walk.new.queue walk.new.seen walk.new.tail }
     ensures later { Later walk.old.queue walk.old.seen walk.old.tail walk.new.queue walk.new.seen walk.new.tail }
-    ensures here { (meaning game.now).start s ≡ true → marked walk.new.seen s ≡ true }
+    ensures here { (G.meaning game.now).start s ≡ true → marked walk.new.seen s ≡ true }
 {
     if game.is_start(s) {
         visit(walk, s);
@@ -92,10 +92,10 @@ fn begin_at<G: Game>(game: &G, walk: &mut Walk, s: usize)
 
 // Visits the starts.
 fn begin<G: Game>(game: &G, walk: &mut Walk)
-    requires few { (meaning game.now).size ≤ 4096 }
-    requires before { (ρ : Ranking) → Walking (meaning game.now) ρ walk.old.queue walk.old.seen walk.old.tail }
-    ensures walking { (ρ : Ranking) → Walking (meaning game.now) ρ walk.new.queue walk.new.seen walk.new.tail }
-    ensures starts { (s : ℕ) → (meaning game.now).start s ≡ true → marked walk.new.seen s ≡ true }
+    requires few { (G.meaning game.now).size ≤ 4096 }
+    requires before { (ρ : Ranking) → Walking (G.meaning game.now) ρ walk.old.queue walk.old.seen walk.old.tail }
+    ensures walking { (ρ : Ranking) → Walking (G.meaning game.now) ρ walk.new.queue walk.new.seen walk.new.tail }
+    ensures starts { (s : ℕ) → (G.meaning game.now).start s ≡ true → marked walk.new.seen s ≡ true }
 {
     for s in 0..game.size() {
         begin_at(game, walk, s);
@@ -104,8 +104,8 @@ fn begin<G: Game>(game: &G, walk: &mut Walk)
 
 // Marks every state that plays by the choices reach, and no other.
 pub(crate) fn reach<G: Game>(game: &G, cells: &[Cell]) -> Walk
-    requires { (meaning game.now).size ≤ 4096 }
-    ensures { Marked (meaning game.now) (ranking_in cells.now) result.seen }
+    requires { (G.meaning game.now).size ≤ 4096 }
+    ensures { Marked (G.meaning game.now) (ranking_in cells.now) result.seen }
 {
     let mut walk = Walk {
         queue: [0; 4096],

@@ -1,4 +1,6 @@
 // Fibonacci Nim as a game between the kiosk and the public.
+#![tactic(auto)]
+
 ghost use Rattle.std.specs.Prelude.{◌≡◌, ◌≤◌, true};
 ghost use Rattle.nim.specs.Nims.{nim_meaning, is_state, number_of, state_of, State};
 ghost use Rattle.nim.specs.NimLaws.{nim_lawful};

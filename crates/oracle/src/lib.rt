@@ -1,5 +1,7 @@
 // A second solver, for tests beside the first: every rule is worked out as it is worded, round after round over all
 // states, with no queue and no list of predecessors.
+#![tactic(auto)]
+
 use game::Game;
 use std::alloc::{AllocError, Global};
 

@@ -1,4 +1,6 @@
 // Reads a sheet from standard input, plans, and prints the listing or one line of refusal.
+#![tactic(auto)]
+
 use std::io;
 use std::io::{Read, Write};
 

@@ -1,4 +1,6 @@
 // The bytes of a sheet in, the bytes that planlist prints out.
+#![tactic(auto)]
+
 ghost use Rattle.std.specs.Prelude.{◌≡◌, ◌+◌, ◌*◌, ◌≤◌, length, take};
 ghost use Rattle.listing.specs.Lines.{longest};
 ghost use Rattle.planner.specs.Printed.{bytes_text, game_text, printed, refusal_line, shown};
@@ -65,8 +67,8 @@ fn sheet_of<'a>(counts: Counts, rows: &'a [Row], moves: &'a [Move]) -> Sheet<'a>
 
 // Plans over a game, and writes the listing or the line of plan's fault.
 fn plan_game<G: Game + Drop>(game: G, out: &mut [u8]) -> Option<usize>
-    ensures value { (result, out.new) ≡ shown (game_text (meaning game)) out.old }
-    ensures short { length (game_text (meaning game)) ≤ 10 + 4096 * 13 }
+    ensures value { (result, out.new) ≡ shown (game_text (G.meaning game)) out.old }
+    ensures short { length (game_text (G.meaning game)) ≤ 10 + 4096 * 13 }
 {
     let mut watch = Watch::new(game);
     match watch.plan() {

@@ -1,6 +1,6 @@
 -- One move more, or the end.
 
-use Rattle.std.proofs.Common.{◌≡◌, ℕ, zero, suc, ◌+◌, ◌-◌, List, [], ◌∷◌, set, Some, None, Ok, Err, Option, Result, refl, ap, ◌∙◌}
+use Rattle.std.proofs.Common.{◌≡◌, ℕ, zero, suc, ◌+◌, List, [], ◌∷◌, set, Some, None, Ok, Err, Option, Result, refl, ap, ◌∙◌}
 use Rattle.records.specs.declared.SheetFault.{SheetFault}
 use Rattle.records.specs.declared.SheetFault.TheVariants.{Room}
 use Rattle.records.specs.Records.{next}

@@ -1,4 +1,6 @@
 // The reader of sheets: bytes into two tables that the caller lends.
+#![tactic(auto)]
+
 ghost use Rattle.std.specs.Prelude.{◌≡◌, ◌+◌, ◌<◌, ◌≤◌, length, take, drop, replicate, IfOk, None, sum_by};
 ghost use Rattle.format.specs.Format.{above_last};
 ghost use Rattle.sheet.specs.Sheets.{zero_row, zero_move};

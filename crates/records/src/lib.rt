@@ -1,5 +1,7 @@
 // The records of a sheet, each read from the input with its fields taken and judged one by one,
 // and the faults of a reading in three layers.
+#![tactic(auto)]
+
 ghost use Rattle.std.specs.Prelude.{◌≡◌, ◌+◌, ◌<◌, ◌≤◌, length, IfOk, OnOk};
 ghost use Rattle.records.specs.Faults.{number_of, layer_of, index_of, offset_of};
 ghost use Rattle.records.specs.Fields.{byte_at, u16_at, u32_at, part_at, shown_part, judged, within, below, are_flags, is_printable, all_printable};
@@ -378,10 +380,12 @@ pub fn take_record<'a>(
 {
     let mark = part(bytes, at, 2, index)?;
     match expect {
-        Expect::Head if mark == HEAD_MARK => head_record(bytes, at, index),
-        Expect::State if mark == STATE_MARK => state_record(bytes, at, index),
-        Expect::Tail { size } if mark == MOVE_MARK => move_record(bytes, at, index, size),
-        Expect::Tail { .. } if mark == END_MARK => end_record(bytes, at, index),
+        Expect::Head if mark == HEAD_MARK.as_slice() => head_record(bytes, at, index),
+        Expect::State if mark == STATE_MARK.as_slice() => state_record(bytes, at, index),
+        Expect::Tail { size } if mark == MOVE_MARK.as_slice() => move_record(
+            bytes, at, index, size,
+        ),
+        Expect::Tail { .. } if mark == END_MARK.as_slice() => end_record(bytes, at, index),
         _ => Err(RecordFault::Mark { index, offset: at }),
     }
 }

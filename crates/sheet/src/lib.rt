@@ -1,4 +1,6 @@
 // The two tables of a sheet, a row for each state and the moves of all rows, and the game that they stand for.
+#![tactic(auto)]
+
 ghost use Rattle.std.specs.Prelude.{◌≡◌};
 ghost use Rattle.sheet.specs.Sheets.{NextIs, sheet_next, sheet_meaning, target_of, has_flag};
 ghost use Rattle.sheet.specs.SheetLaws.{sheet_lawful};

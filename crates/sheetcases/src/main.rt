@@ -1,4 +1,6 @@
 // A table of cases for the reader and the writer of sheets, from the standard input: a line of output for each.
+#![tactic(auto)]
+
 mod large;
 mod reading;
 mod text;

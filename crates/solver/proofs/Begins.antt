@@ -1,5 +1,5 @@
 -- The round for rank 0.
-use Rattle.std.proofs.Common.{◌≡◌, ℕ, zero, suc, ◌+◌, ◌<◌, ◌≤◌, Bool, true, false, ◌⊎◌, List, [], length, get_or, set, is_some, Some, None, sym, refl, ap, ◌∙◌, subst, inl, ⊎_elim, arith, get_or-set_other}
+use Rattle.std.proofs.Common.{◌≡◌, ℕ, zero, suc, ◌+◌, ◌<◌, ◌≤◌, Bool, true, false, List, [], length, get_or, set, is_some, Some, None, sym, refl, ap, ◌∙◌, subst, inl, ⊎_elim, arith, get_or-set_other}
 use Rattle.std.proofs.lemmas.Bool.{cases_Bool, cases_lt, cases_eq, cond-true, cond-false, both_ways}
 use Rattle.game.specs.Meaning.{Meaning, Lawful, done}
 use Rattle.game.specs.Search.{count_below}

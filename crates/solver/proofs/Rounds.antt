@@ -1,10 +1,10 @@
 -- What a round does to cells, queue and pointers.
-use Rattle.std.proofs.Common.{◌≡◌, ℕ, suc, ◌<◌, ◌≤◌, true, false, cond, ◌⊎◌, List, length, get_or, set, is_some, Some, None, Option, sym, refl, ap, ◌∙◌, subst, ⊎_elim, get_or-set_other, get_or-set_same}
+use Rattle.std.proofs.Common.{◌≡◌, ℕ, suc, ◌<◌, ◌≤◌, true, false, cond, List, length, get_or, set, is_some, Some, None, Option, sym, refl, ap, ◌∙◌, subst, ⊎_elim, get_or-set_other, get_or-set_same}
 use mathlib.Core.Path.{fun_ext}
 use Rattle.std.proofs.lemmas.Bool.{cases_Bool, cases_eq, cond-true, cond-false, both_ways}
 use Rattle.game.specs.Meaning.{Meaning, Lawful}
 use Rattle.game.specs.Search.{or_else}
-use Rattle.game.specs.Ranks.{Bars, within, rank}
+use Rattle.game.specs.Ranks.{Bars, within}
 use Rattle.game.proofs.Searches.{none_some, same_some}
 use Rattle.solver.specs.declared.Cell.{Cell}
 use Rattle.solver.specs.Known.{under, low, known, cell_of, settled}

@@ -8,8 +8,8 @@ use game::Game;
 
 // Where the arc `e` leads: label `e % 64` of state `e / 64`, which is no end.
 fn follow<G: Game>(game: &G, bars: u64, e: usize) -> Option<usize>
-    requires { (meaning game.now).end (e / 64) ≡ false }
-    ensures { result ≡ arc (meaning game.now) (has_bit bars) e }
+    requires { (G.meaning game.now).end (e / 64) ≡ false }
+    ensures { result ≡ arc (G.meaning game.now) (has_bit bars) e }
 {
     let s = e / 64;
     let l = (e % 64) as u8;
@@ -22,11 +22,11 @@ fn follow<G: Game>(game: &G, bars: u64, e: usize) -> Option<usize>
 
 // Puts the arc `e` at the head of its list.
 fn link_arc<G: Game>(game: &G, bars: u64, preds: &mut Predecessors, e: usize)
-    requires few { (meaning game.now).size ≤ 4096 }
+    requires few { (G.meaning game.now).size ≤ 4096 }
     requires inside { e < 262144 }
-    requires going { (meaning game.now).end (e / 64) ≡ false }
-    requires before { Linked (meaning game.now) (has_bit bars) e preds.old.head preds.old.link }
-    ensures { Linked (meaning game.now) (has_bit bars) (e + 1) preds.new.head preds.new.link }
+    requires going { (G.meaning game.now).end (e / 64) ≡ false }
+    requires before { Linked (G.meaning game.now) (has_bit bars) e preds.old.head preds.old.link }
+    ensures { Linked (G.meaning game.now) (has_bit bars) (e + 1) preds.new.head preds.new.link }
 {
     if let Some(t) = follow(game, bars, e) {
         let first = preds.head[t];
@@ -37,10 +37,10 @@ fn link_arc<G: Game>(game: &G, bars: u64, preds: &mut Predecessors, e: usize)
 
 // Puts the arcs of `s` into the preds.
 fn link_state<G: Game>(game: &G, bars: u64, preds: &mut Predecessors, s: usize)
-    requires few { (meaning game.now).size ≤ 4096 }
-    requires state { s < (meaning game.now).size }
-    requires before { Linked (meaning game.now) (has_bit bars) (s * 64) preds.old.head preds.old.link }
-    ensures { Linked (meaning game.now) (has_bit bars) ((s + 1) * 64) preds.new.head preds.new.link }
+    requires few { (G.meaning game.now).size ≤ 4096 }
+    requires state { s < (G.meaning game.now).size }
+    requires before { Linked (G.meaning game.now) (has_bit bars) (s * 64) preds.old.head preds.old.link }
+    ensures { Linked (G.meaning game.now) (has_bit bars) ((s + 1) * 64) preds.new.head preds.new.link }
 {
     if game.is_end(s) {
         return;
@@ -52,9 +52,9 @@ fn link_state<G: Game>(game: &G, bars: u64, preds: &mut Predecessors, s: usize)
 
 // Puts every arc into the list of the state it leads to.
 pub(crate) fn link_all<G: Game>(game: &G, bars: u64, preds: &mut Predecessors)
-    requires few { (meaning game.now).size ≤ 4096 }
-    requires before { Linked (meaning game.now) (has_bit bars) 0 preds.old.head preds.old.link }
-    ensures { Linked (meaning game.now) (has_bit bars) ((meaning game.now).size * 64) preds.new.head preds.new.link }
+    requires few { (G.meaning game.now).size ≤ 4096 }
+    requires before { Linked (G.meaning game.now) (has_bit bars) 0 preds.old.head preds.old.link }
+    ensures { Linked (G.meaning game.now) (has_bit bars) ((G.meaning game.now).size * 64) preds.new.head preds.new.link }
 {
     for s in 0..game.size() {
         link_state(game, bars, preds, s);

@@ -20,8 +20,8 @@ fn is_low(cells: &[Cell], k: u32, t: usize) -> bool
 
 // Whether the label leads to a state of a rank below `k`.
 fn leads_low<G: Game>(game: &G, cells: &[Cell], k: u32, s: usize, l: u8) -> bool
-    requires { (meaning game.now).size ≤ length cells.now }
-    ensures { result ≡ leads_to ((meaning game.now).next s l) (low cells.now k) }
+    requires { (G.meaning game.now).size ≤ length cells.now }
+    ensures { result ≡ leads_to ((G.meaning game.now).next s l) (low cells.now k) }
 {
     match game.next(s, l) {
         Some(t) => is_low(cells, k, t),
@@ -31,8 +31,8 @@ fn leads_low<G: Game>(game: &G, cells: &[Cell], k: u32, s: usize, l: u8) -> bool
 
 // Whether the label leads nowhere, or to a state of a rank below `k`.
 pub(crate) fn only_low<G: Game>(game: &G, cells: &[Cell], k: u32, s: usize, l: u8) -> bool
-    requires { (meaning game.now).size ≤ length cells.now }
-    ensures { result ≡ none_or ((meaning game.now).next s l) (low cells.now k) }
+    requires { (G.meaning game.now).size ≤ length cells.now }
+    ensures { result ≡ none_or ((G.meaning game.now).next s l) (low cells.now k) }
 {
     match game.next(s, l) {
         Some(t) => is_low(cells, k, t),
@@ -41,16 +41,16 @@ pub(crate) fn only_low<G: Game>(game: &G, cells: &[Cell], k: u32, s: usize, l: u
 }
 
 fn may_pick<G: Game>(game: &G, bars: u64, cells: &[Cell], k: u32, s: usize, l: u8) -> bool
-    requires { (meaning game.now).size ≤ length cells.now }
-    ensures { result ≡ (not (has_bit bars l) && leads_to ((meaning game.now).next s l) (low cells.now k)) }
+    requires { (G.meaning game.now).size ≤ length cells.now }
+    ensures { result ≡ (not (has_bit bars l) && leads_to ((G.meaning game.now).next s l) (low cells.now k)) }
 {
     !labelset::contains(bars, l) && leads_low(game, cells, k, s, l)
 }
 
 // The lowest unbarred label that leads to a state of a rank below `k`.
 pub(crate) fn pick<G: Game>(game: &G, bars: u64, cells: &[Cell], k: u32, s: usize) -> Option<u8>
-    requires { (meaning game.now).size ≤ length cells.now }
-    ensures { result ≡ lowest_label (meaning game.now) (has_bit bars) (low cells.now k) s }
+    requires { (G.meaning game.now).size ≤ length cells.now }
+    ensures { result ≡ lowest_label (G.meaning game.now) (has_bit bars) (low cells.now k) s }
 {
     for l in 0..game.labels() {
         if may_pick(game, bars, cells, k, s, l) {

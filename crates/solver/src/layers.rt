@@ -15,12 +15,12 @@ use game::{Game, is_done};
 
 // The first label from `from` on that leads to no state of a rank below `k`.
 fn lead_on<G: Game>(game: &G, cells: &[Cell], k: u32, s: usize, from: u8) -> u8
-    requires room { (meaning game.now).size ≤ length cells.now }
-    requires from { from ≤ (meaning game.now).ceiling }
-    requires before { passed (meaning game.now) (low cells.now k) s from ≡ true }
-    ensures few { result ≤ (meaning game.now).ceiling }
-    ensures passes { passed (meaning game.now) (low cells.now k) s result ≡ true }
-    ensures stops { result < (meaning game.now).ceiling → none_or ((meaning game.now).next s result) (low cells.now k) ≡ false }
+    requires room { (G.meaning game.now).size ≤ length cells.now }
+    requires from { from ≤ (G.meaning game.now).ceiling }
+    requires before { passed (G.meaning game.now) (low cells.now k) s from ≡ true }
+    ensures few { result ≤ (G.meaning game.now).ceiling }
+    ensures passes { passed (G.meaning game.now) (low cells.now k) s result ≡ true }
+    ensures stops { result < (G.meaning game.now).ceiling → none_or ((G.meaning game.now).next s result) (low cells.now k) ≡ false }
 {
     let mut l = from;
     while l < game.labels() {
@@ -34,11 +34,11 @@ fn lead_on<G: Game>(game: &G, cells: &[Cell], k: u32, s: usize, from: u8) -> u8
 
 // Whether every label of `s` leads to a state of a rank below `k`. The pointer of `s` passes those that do.
 fn all_low<G: Game>(game: &G, cells: &[Cell], ptr: &mut [u8], k: u32, s: usize) -> bool
-    requires room { (meaning game.now).size ≤ length cells.now }
+    requires room { (G.meaning game.now).size ≤ length cells.now }
     requires state { s < length ptr.old }
-    requires from { slice_index ptr.old s ≤ (meaning game.now).ceiling }
-    requires before { passed (meaning game.now) (low cells.now k) s (slice_index ptr.old s) ≡ true }
-    ensures { (x : ℕ) × (ptr.new ≡ slice_set ptr.old s x) × (x ≤ (meaning game.now).ceiling) × (passed (meaning game.now) (low cells.now k) s x ≡ true) × (result ≡ passed (meaning game.now) (low cells.now k) s (meaning game.now).ceiling) }
+    requires from { slice_index ptr.old s ≤ (G.meaning game.now).ceiling }
+    requires before { passed (G.meaning game.now) (low cells.now k) s (slice_index ptr.old s) ≡ true }
+    ensures { (x : ℕ) × (ptr.new ≡ slice_set ptr.old s x) × (x ≤ (G.meaning game.now).ceiling) × (passed (G.meaning game.now) (low cells.now k) s x ≡ true) × (result ≡ passed (G.meaning game.now) (low cells.now k) s (G.meaning game.now).ceiling) }
 {
     let l = lead_on(game, cells, k, s, ptr[s]);
     ptr[s] = l;
@@ -54,14 +54,14 @@ fn ripe<G: Game>(
     k: u32,
     s: usize,
 ) -> Option<Cell>
-    requires room { (meaning game.now).size ≤ length cells.now }
+    requires room { (G.meaning game.now).size ≤ length cells.now }
     requires state { s < length ptr.old }
     requires late { 0 < k }
-    requires moves { some_below (λ l. is_some ((meaning game.now).next s l)) (meaning game.now).ceiling ≡ true }
-    requires from { slice_index ptr.old s ≤ (meaning game.now).ceiling }
-    requires before { passed (meaning game.now) (low cells.now k) s (slice_index ptr.old s) ≡ true }
-    ensures pointer { (x : ℕ) × (ptr.new ≡ slice_set ptr.old s x) × (x ≤ (meaning game.now).ceiling) × (passed (meaning game.now) (low cells.now k) s x ≡ true) }
-    ensures value { result ≡ settled (meaning game.now) (has_bit bars) (low cells.now k) k s }
+    requires moves { some_below (λ l. is_some ((G.meaning game.now).next s l)) (G.meaning game.now).ceiling ≡ true }
+    requires from { slice_index ptr.old s ≤ (G.meaning game.now).ceiling }
+    requires before { passed (G.meaning game.now) (low cells.now k) s (slice_index ptr.old s) ≡ true }
+    ensures pointer { (x : ℕ) × (ptr.new ≡ slice_set ptr.old s x) × (x ≤ (G.meaning game.now).ceiling) × (passed (G.meaning game.now) (low cells.now k) s x ≡ true) }
+    ensures value { result ≡ settled (G.meaning game.now) (has_bit bars) (low cells.now k) k s }
 {
     if game.is_end(s) {
         return None;
@@ -86,17 +86,17 @@ fn ripe<G: Game>(
 
 // Follows an arc from `s` to a state of rank `k - 1`. Answers whether `s` gets the rank `k`.
 fn visit<G: Game>(game: &G, bars: u64, cells: &mut [Cell], ptr: &mut [u8], k: u32, s: usize) -> bool
-    requires room { (meaning game.now).size ≤ length cells.old }
-    requires places { (meaning game.now).size ≤ length ptr.old }
-    requires state { s < (meaning game.now).size }
+    requires room { (G.meaning game.now).size ≤ length cells.old }
+    requires places { (G.meaning game.now).size ≤ length ptr.old }
+    requires state { s < (G.meaning game.now).size }
     requires late { 0 < k }
-    requires moves { some_below (λ l. is_some ((meaning game.now).next s l)) (meaning game.now).ceiling ≡ true }
-    requires mid { Mid (meaning game.now) (has_bit bars) k cells.old }
-    requires pointed { Pointed (meaning game.now) (has_bit bars) k ptr.old }
-    ensures cells { cells.new ≡ (if result then slice_set cells.old s (cell_of (meaning game.now) (has_bit bars) s (Some k)) else cells.old) }
-    ensures new { result ≡ true → (has_cell cells.old s ≡ false) × (known (meaning game.now) (has_bit bars) (suc k) s ≡ Some k) }
-    ensures old { result ≡ false → Touched (meaning game.now) (has_bit bars) k cells.old s }
-    ensures pointed { Pointed (meaning game.now) (has_bit bars) k ptr.new }
+    requires moves { some_below (λ l. is_some ((G.meaning game.now).next s l)) (G.meaning game.now).ceiling ≡ true }
+    requires mid { Mid (G.meaning game.now) (has_bit bars) k cells.old }
+    requires pointed { Pointed (G.meaning game.now) (has_bit bars) k ptr.old }
+    ensures cells { cells.new ≡ (if result then slice_set cells.old s (cell_of (G.meaning game.now) (has_bit bars) s (Some k)) else cells.old) }
+    ensures new { result ≡ true → (has_cell cells.old s ≡ false) × (known (G.meaning game.now) (has_bit bars) (suc k) s ≡ Some k) }
+    ensures old { result ≡ false → Touched (G.meaning game.now) (has_bit bars) k cells.old s }
+    ensures pointed { Pointed (G.meaning game.now) (has_bit bars) k ptr.new }
 {
     if has_rank(cells, s) {
         return false;
@@ -123,15 +123,15 @@ fn push(work: &mut Work, s: usize)
 
 // Follows an arc from `s`, and puts `s` into the queue where it gets the rank `k`.
 fn reach<G: Game>(game: &G, bars: u64, cells: &mut [Cell], work: &mut Work, k: u32, s: usize)
-    requires few { (meaning game.now).size ≤ 4096 }
-    requires room { (meaning game.now).size ≤ length cells.old }
-    requires state { s < (meaning game.now).size }
+    requires few { (G.meaning game.now).size ≤ 4096 }
+    requires room { (G.meaning game.now).size ≤ length cells.old }
+    requires state { s < (G.meaning game.now).size }
     requires late { 0 < k }
-    requires moves { some_below (λ l. is_some ((meaning game.now).next s l)) (meaning game.now).ceiling ≡ true }
-    requires run { Run (meaning game.now) (has_bit bars) k cells.old work.old.queue work.old.ptr work.old.tail }
-    ensures run { Run (meaning game.now) (has_bit bars) k cells.new work.new.queue work.new.ptr work.new.tail }
-    ensures moved { Moved (meaning game.now) (has_bit bars) k cells.old work.old.queue work.old.tail cells.new work.new.queue work.new.tail }
-    ensures touched { Touched (meaning game.now) (has_bit bars) k cells.new s }
+    requires moves { some_below (λ l. is_some ((G.meaning game.now).next s l)) (G.meaning game.now).ceiling ≡ true }
+    requires run { Run (G.meaning game.now) (has_bit bars) k cells.old work.old.queue work.old.ptr work.old.tail }
+    ensures run { Run (G.meaning game.now) (has_bit bars) k cells.new work.new.queue work.new.ptr work.new.tail }
+    ensures moved { Moved (G.meaning game.now) (has_bit bars) k cells.old work.old.queue work.old.tail cells.new work.new.queue work.new.tail }
+    ensures touched { Touched (G.meaning game.now) (has_bit bars) k cells.new s }
 {
     if visit(game, bars, cells, &mut work.ptr, k, s) {
         push(work, s);
@@ -148,15 +148,15 @@ fn walk<G: Game>(
     k: u32,
     t: usize,
 )
-    requires few { (meaning game.now).size ≤ 4096 }
-    requires room { (meaning game.now).size ≤ length cells.old }
-    requires linked { Linked (meaning game.now) (has_bit bars) ((meaning game.now).size * 64) preds.now.head preds.now.link }
-    requires target { t < (meaning game.now).size }
+    requires few { (G.meaning game.now).size ≤ 4096 }
+    requires room { (G.meaning game.now).size ≤ length cells.old }
+    requires linked { Linked (G.meaning game.now) (has_bit bars) ((G.meaning game.now).size * 64) preds.now.head preds.now.link }
+    requires target { t < (G.meaning game.now).size }
     requires late { 0 < k }
-    requires run { Run (meaning game.now) (has_bit bars) k cells.old work.old.queue work.old.ptr work.old.tail }
-    ensures run { Run (meaning game.now) (has_bit bars) k cells.new work.new.queue work.new.ptr work.new.tail }
-    ensures moved { Moved (meaning game.now) (has_bit bars) k cells.old work.old.queue work.old.tail cells.new work.new.queue work.new.tail }
-    ensures followed { Followed (meaning game.now) (has_bit bars) k cells.new t 0 }
+    requires run { Run (G.meaning game.now) (has_bit bars) k cells.old work.old.queue work.old.ptr work.old.tail }
+    ensures run { Run (G.meaning game.now) (has_bit bars) k cells.new work.new.queue work.new.ptr work.new.tail }
+    ensures moved { Moved (G.meaning game.now) (has_bit bars) k cells.old work.old.queue work.old.tail cells.new work.new.queue work.new.tail }
+    ensures followed { Followed (G.meaning game.now) (has_bit bars) k cells.new t 0 }
 {
     let mut e = preds.head[t] as usize;
     while e != 0 {
@@ -176,11 +176,11 @@ pub(crate) fn layer<G: Game>(
     k: u32,
     lo: usize,
 )
-    requires few { (meaning game.now).size ≤ 4096 }
-    requires room { (meaning game.now).size ≤ length cells.old }
-    requires linked { Linked (meaning game.now) (has_bit bars) ((meaning game.now).size * 64) preds.now.head preds.now.link }
-    requires at { (q : ℕ) × (k ≡ suc q) × At (meaning game.now) (has_bit bars) q lo work.old.tail cells.old work.old.queue work.old.ptr }
-    ensures { At (meaning game.now) (has_bit bars) k work.old.tail work.new.tail cells.new work.new.queue work.new.ptr }
+    requires few { (G.meaning game.now).size ≤ 4096 }
+    requires room { (G.meaning game.now).size ≤ length cells.old }
+    requires linked { Linked (G.meaning game.now) (has_bit bars) ((G.meaning game.now).size * 64) preds.now.head preds.now.link }
+    requires at { (q : ℕ) × (k ≡ suc q) × At (G.meaning game.now) (has_bit bars) q lo work.old.tail cells.old work.old.queue work.old.ptr }
+    ensures { At (G.meaning game.now) (has_bit bars) k work.old.tail work.new.tail cells.new work.new.queue work.new.ptr }
 {
     let hi = work.tail;
     for i in lo..hi {
@@ -190,11 +190,11 @@ pub(crate) fn layer<G: Game>(
 }
 
 fn begin_at<G: Game>(game: &G, cells: &mut [Cell], work: &mut Work, s: usize)
-    requires few { (meaning game.now).size ≤ 4096 }
-    requires room { (meaning game.now).size ≤ length cells.old }
-    requires state { s < (meaning game.now).size }
-    requires before { Begun (meaning game.now) s cells.old work.old.queue work.old.tail }
-    ensures after { Begun (meaning game.now) (s + 1) cells.new work.new.queue work.new.tail }
+    requires few { (G.meaning game.now).size ≤ 4096 }
+    requires room { (G.meaning game.now).size ≤ length cells.old }
+    requires state { s < (G.meaning game.now).size }
+    requires before { Begun (G.meaning game.now) s cells.old work.old.queue work.old.tail }
+    ensures after { Begun (G.meaning game.now) (s + 1) cells.new work.new.queue work.new.tail }
     ensures ptr { work.new.ptr ≡ work.old.ptr }
 {
     if is_done(game, s) {
@@ -211,11 +211,11 @@ fn begin_at<G: Game>(game: &G, cells: &mut [Cell], work: &mut Work, s: usize)
 
 // Gives the rank 0 to all that have it, and puts them into the queue.
 pub(crate) fn begin<G: Game>(game: &G, cells: &mut [Cell], work: &mut Work)
-    requires few { (meaning game.now).size ≤ 4096 }
-    requires room { (meaning game.now).size ≤ length cells.old }
+    requires few { (G.meaning game.now).size ≤ 4096 }
+    requires room { (G.meaning game.now).size ≤ length cells.old }
     requires blank { (s : ℕ) → slice_index_or cells.old s empty ≡ empty }
     requires none { work.old.tail ≡ 0 }
-    ensures after { Begun (meaning game.now) (meaning game.now).size cells.new work.new.queue work.new.tail }
+    ensures after { Begun (G.meaning game.now) (G.meaning game.now).size cells.new work.new.queue work.new.tail }
     ensures ptr { work.new.ptr ≡ work.old.ptr }
 {
     for s in 0..game.size() {

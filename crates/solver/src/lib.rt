@@ -1,6 +1,8 @@
 // Ranks and choices of every state of a game, by retrograde analysis: from the done states backwards along the moves,
 // layer by layer. Each label of each state is asked for a small constant number of times, however deep the game is.
 // Scratch memory: 1.1 MB on the stack, no heap.
+#![tactic(auto)]
+
 ghost use Rattle.std.specs.Prelude.{◌≡◌, ℕ, ◌<◌, ◌≤◌, true, false, ◌&&◌, length, get_or, is_some, nat_le, slice_index_or};
 ghost use Rattle.labelset.specs.Bits.{has_bit};
 ghost use Rattle.solver.specs.Cells.{empty, cell_at, Solving};
@@ -70,9 +72,9 @@ fn clear(cells: &mut [Cell])
 
 // Works out every rank and choice, layer after layer.
 fn fill<G: Game>(game: &G, bars: u64, cells: &mut [Cell])
-    requires room { (meaning game.now).size ≤ length cells.old }
-    requires few { (meaning game.now).size ≤ 4096 }
-    ensures { Filled (meaning game.now) (has_bit bars) cells.new }
+    requires room { (G.meaning game.now).size ≤ length cells.old }
+    requires few { (G.meaning game.now).size ≤ 4096 }
+    ensures { Filled (G.meaning game.now) (has_bit bars) cells.new }
 {
     let mut preds = Predecessors {
         head: [0; 4096],
@@ -98,8 +100,8 @@ fn fill<G: Game>(game: &G, bars: u64, cells: &mut [Cell])
 
 // Whether a game has at most 4,096 states, and not more than there are cells.
 fn has_room<G: Game>(game: &G, cells: usize) -> bool
-    ensures value { result ≡ (nat_le (meaning game.now).size 4096 && nat_le (meaning game.now).size cells) }
-    ensures few { result ≡ true → ((meaning game.now).size ≤ 4096) × ((meaning game.now).size ≤ cells) }
+    ensures value { result ≡ (nat_le (G.meaning game.now).size 4096 && nat_le (G.meaning game.now).size cells) }
+    ensures few { result ≡ true → ((G.meaning game.now).size ≤ 4096) × ((G.meaning game.now).size ≤ cells) }
 {
     let n = game.size();
     n <= MOST && n <= cells
@@ -108,7 +110,7 @@ fn has_room<G: Game>(game: &G, cells: usize) -> bool
 // Gives every cell the rank and the choice of its state under the bars, and answers true; or answers false, and leaves
 // the cells as they are, where the game has more than 4,096 states or more than there are cells.
 pub fn solve<G: Game>(game: &G, bars: u64, cells: &mut [Cell]) -> bool
-    ensures { Solving (meaning game.now) (has_bit bars) cells.old result cells.new }
+    ensures { Solving (G.meaning game.now) (has_bit bars) cells.old result cells.new }
 {
     let fits = has_room(game, cells.len());
     if fits {

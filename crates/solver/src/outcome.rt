@@ -10,14 +10,14 @@ use game::Game;
 use law::Verdict;
 
 fn is_lost<G: Game>(game: &G, cells: &[Cell], s: usize) -> bool
-    ensures { result ≡ lost_start (meaning game.now) (ranking_in cells.now).rank s }
+    ensures { result ≡ lost_start (G.meaning game.now) (ranking_in cells.now).rank s }
 {
     game.is_start(s) && cell_at(cells, s).rank.is_none()
 }
 
 // The lowest start without rank.
 fn first_lost<G: Game>(game: &G, cells: &[Cell]) -> Option<usize>
-    ensures { result ≡ first_below (lost_start (meaning game.now) (ranking_in cells.now).rank) (meaning game.now).size }
+    ensures { result ≡ first_below (lost_start (G.meaning game.now) (ranking_in cells.now).rank) (G.meaning game.now).size }
 {
     for s in 0..game.size() {
         if is_lost(game, cells, s) {
@@ -28,7 +28,7 @@ fn first_lost<G: Game>(game: &G, cells: &[Cell]) -> Option<usize>
 }
 
 fn rank_of_start<G: Game>(game: &G, cells: &[Cell], s: usize) -> u32
-    ensures { result ≡ unwrap_or (start_rank (meaning game.now) (ranking_in cells.now).rank s) 0 }
+    ensures { result ≡ unwrap_or (start_rank (G.meaning game.now) (ranking_in cells.now).rank s) 0 }
 {
     if !game.is_start(s) {
         return 0;
@@ -44,7 +44,7 @@ fn larger(a: u32, b: u32) -> u32
 
 // The highest rank of a start.
 fn highest_rank<G: Game>(game: &G, cells: &[Cell]) -> u32
-    ensures { result ≡ highest (start_rank (meaning game.now) (ranking_in cells.now).rank) (meaning game.now).size }
+    ensures { result ≡ highest (start_rank (G.meaning game.now) (ranking_in cells.now).rank) (G.meaning game.now).size }
 {
     let mut top = 0;
     for s in 0..game.size() {
@@ -56,7 +56,7 @@ fn highest_rank<G: Game>(game: &G, cells: &[Cell]) -> u32
 
 // Held with the highest rank of a start, or lost with the lowest start that has none, by what the cells hold.
 pub fn verdict<G: Game>(game: &G, cells: &[Cell]) -> Verdict
-    ensures { result ≡ plan_verdict (meaning game.now) (ranking_in cells.now).rank }
+    ensures { result ≡ plan_verdict (G.meaning game.now) (ranking_in cells.now).rank }
 {
     match first_lost(game, cells) {
         Some(s) => Verdict::Lost(s),

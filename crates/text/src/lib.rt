@@ -1,4 +1,6 @@
 // Lines of decimal numbers, measured and written into a lent slice.
+#![tactic(auto)]
+
 ghost use Rattle.std.specs.Prelude.{◌≡◌, ℕ, ◌+◌, ◌≤◌, List, [], length, decimal, nat_le};
 ghost use Rattle.text.specs.Lines.{count_line, line};
 ghost use Rattle.text.specs.Places.{Written, placed};

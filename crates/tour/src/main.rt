@@ -1,4 +1,6 @@
 // Plans of the makes of game that are no sheets, and a tour of the library.
+#![tactic(auto)]
+
 mod library;
 
 use corridor::Corridor;

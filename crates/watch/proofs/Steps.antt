@@ -16,7 +16,7 @@ use Rattle.law.specs.declared.Answer.{Answer}
 use Rattle.law.specs.declared.Answer.TheVariants.{Planned, Opened, Reported, Rated, Barred, Seen, Left, Refused}
 use Rattle.law.specs.Checks.{first_fault}
 use Rattle.law.specs.Answers.{Ranking, ranking, refuse_if, or_fault, plan_verdict, plan_answer, open_answer, reply_answer, report_answer, rate_answer, rating, change_answer, look_answer, leave_answer}
-use Rattle.law.specs.Log.{Log, accepted, says, barred, changes, is_plan, position, refusals, stands, behind, moved}
+use Rattle.law.specs.Log.{Log, accepted, says, barred, changes, is_plan, position, stands, behind, moved}
 use Rattle.law.specs.Law.{answered, replied, answer, Kept}
 use Rattle.law.proofs.Laws.{law, same_bars, sound_unblocked}
 use Rattle.law.proofs.Checked.{no_fault_sound}

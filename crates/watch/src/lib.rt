@@ -1,4 +1,6 @@
 // The watch: it plans over a game, answers the public move by move, and may be asked nine calls in any order.
+#![tactic(auto)]
+
 ghost use Rattle.std.specs.Prelude.{◌≡◌, true, false, not, [], is_some, IfOk, Some, None, OnOk};
 ghost use Rattle.std.specs.Option.{option_map, unwrap_or};
 ghost use Rattle.game.specs.Final.{Final};
@@ -51,7 +53,7 @@ impl<G: Game> Watch<G> {
     pub fn new(game: G) -> Watch<G>
         ensures same { result.game ≡ game }
         ensures value { result.memory ≡ new_memory }
-        ensures lived { Lived (meaning game) [] result.memory }
+        ensures lived { Lived (G.meaning game) [] result.memory }
     {
         let table = Table {
             cells: [Cell {
@@ -89,12 +91,12 @@ impl<G: Game> Watch<G> {
     // Checks the game, works out ranks and choices under the bars, and makes the plan stand.
     pub fn plan(&mut self) -> Result<Verdict, Fault>
         ensures same { self.new.game ≡ self.old.game }
-        ensures value { result ≡ plan_answer (first_fault (meaning self.old.game)) (plan_verdict (meaning self.old.game) (rank (meaning self.old.game) (bars_of self.old.memory))) }
-        ensures after { AfterPlan (meaning self.old.game) self.old.memory result self.new.memory }
-        ensures extends { Extends (meaning self.old.game) self.old.memory Plan (answered Planned result) self.new.memory }
-        ensures checked { Checked (meaning self.old.game) result }
-        ensures word { IfOk result (VerdictIs (meaning self.old.game) (bars_of self.old.memory)) }
-        ensures finality { OnOk result (Final (meaning self.old.game) (bars_of self.old.memory)) }
+        ensures value { result ≡ plan_answer (first_fault (G.meaning self.old.game)) (plan_verdict (G.meaning self.old.game) (rank (G.meaning self.old.game) (bars_of self.old.memory))) }
+        ensures after { AfterPlan (G.meaning self.old.game) self.old.memory result self.new.memory }
+        ensures extends { Extends (G.meaning self.old.game) self.old.memory Plan (answered Planned result) self.new.memory }
+        ensures checked { Checked (G.meaning self.old.game) result }
+        ensures word { IfOk result (VerdictIs (G.meaning self.old.game) (bars_of self.old.memory)) }
+        ensures finality { OnOk result (Final (G.meaning self.old.game) (bars_of self.old.memory)) }
     {
         match checks::find_fault(&self.game) {
             Some(fault) => {
@@ -110,7 +112,7 @@ impl<G: Game> Watch<G> {
     }
 
     fn judge_open(&self, state: usize) -> Result<u32, Fault>
-        ensures { result ≡ open_answer (meaning self.now.game) (ranking_of self.now.memory) self.now.memory.planned self.now.memory.position state }
+        ensures { result ≡ open_answer (G.meaning self.now.game) (ranking_of self.now.memory) self.now.memory.planned self.now.memory.position state }
     {
         if self.memory.position.is_some() {
             return Err(Fault::RunOpen);
@@ -130,16 +132,16 @@ impl<G: Game> Watch<G> {
     // Begins a run at a start, and answers its rank.
     pub fn open(&mut self, state: usize) -> Result<u32, Fault>
         ensures same { self.new.game ≡ self.old.game }
-        ensures value { result ≡ open_answer (meaning self.old.game) (ranking_of self.old.memory) self.old.memory.planned self.old.memory.position state }
+        ensures value { result ≡ open_answer (G.meaning self.old.game) (ranking_of self.old.memory) self.old.memory.planned self.old.memory.position state }
         ensures after { self.new.memory ≡ after result self.old.memory (moved_to self.old.memory (Some state)) }
-        ensures extends { Extends (meaning self.old.game) self.old.memory (Open state) (answered Opened result) self.new.memory }
+        ensures extends { Extends (G.meaning self.old.game) self.old.memory (Open state) (answered Opened result) self.new.memory }
     {
         let answer = self.judge_open(state);
         self.finish(answer, Some(state))
     }
 
     fn judge_reply(&self) -> Result<(u8, u32), Fault>
-        ensures { result ≡ reply_answer (meaning self.now.game) (ranking_of self.now.memory) self.now.memory.planned self.now.memory.position }
+        ensures { result ≡ reply_answer (G.meaning self.now.game) (ranking_of self.now.memory) self.now.memory.planned self.now.memory.position }
     {
         let Some(p) = self.memory.position else {
             return Err(Fault::NoRun);
@@ -161,7 +163,7 @@ impl<G: Game> Watch<G> {
 
     // The choice at a position, and the rank behind it.
     fn chosen(&self, p: usize) -> Result<(u8, u32), Fault>
-        ensures { result ≡ chosen_move (meaning self.now.game) (ranking_of self.now.memory) p ((ranking_of self.now.memory).choice p) }
+        ensures { result ≡ chosen_move (G.meaning self.now.game) (ranking_of self.now.memory) p ((ranking_of self.now.memory).choice p) }
     {
         let Some(label) = cell_at(&self.memory.table.cells, p).choice else {
             return Err(Fault::NoRank);
@@ -177,7 +179,7 @@ impl<G: Game> Watch<G> {
 
     // The state behind a label, from the position if there is one.
     fn behind(&self, label: u8) -> Option<usize>
-        ensures { result ≡ behind (meaning self.now.game) self.now.memory.position label }
+        ensures { result ≡ behind (G.meaning self.now.game) self.now.memory.position label }
     {
         match self.memory.position {
             Some(p) => self.game.next(p, label),
@@ -186,7 +188,7 @@ impl<G: Game> Watch<G> {
     }
 
     fn replied_to(&self, answer: Result<(u8, u32), Fault>) -> Option<usize>
-        ensures { result ≡ replied_to (meaning self.now.game) self.now.memory answer }
+        ensures { result ≡ replied_to (G.meaning self.now.game) self.now.memory answer }
     {
         match answer {
             Ok((label, _)) => self.behind(label),
@@ -197,9 +199,9 @@ impl<G: Game> Watch<G> {
     // Makes the chosen move, and answers the label and the rank of the new position.
     pub fn reply(&mut self) -> Result<(u8, u32), Fault>
         ensures same { self.new.game ≡ self.old.game }
-        ensures value { result ≡ reply_answer (meaning self.old.game) (ranking_of self.old.memory) self.old.memory.planned self.old.memory.position }
-        ensures after { self.new.memory ≡ after result self.old.memory (moved_to self.old.memory (replied_to (meaning self.old.game) self.old.memory result)) }
-        ensures extends { Extends (meaning self.old.game) self.old.memory Reply (answered replied result) self.new.memory }
+        ensures value { result ≡ reply_answer (G.meaning self.old.game) (ranking_of self.old.memory) self.old.memory.planned self.old.memory.position }
+        ensures after { self.new.memory ≡ after result self.old.memory (moved_to self.old.memory (replied_to (G.meaning self.old.game) self.old.memory result)) }
+        ensures extends { Extends (G.meaning self.old.game) self.old.memory Reply (answered replied result) self.new.memory }
     {
         let answer = self.judge_reply();
         let to = self.replied_to(answer);
@@ -207,7 +209,7 @@ impl<G: Game> Watch<G> {
     }
 
     fn judge_report(&self, label: u8) -> Result<usize, Fault>
-        ensures { result ≡ report_answer (meaning self.now.game) self.now.memory.position label }
+        ensures { result ≡ report_answer (G.meaning self.now.game) self.now.memory.position label }
     {
         let Some(p) = self.memory.position else {
             return Err(Fault::NoRun);
@@ -230,9 +232,9 @@ impl<G: Game> Watch<G> {
     // Makes the public's move, plan or no plan, and answers the new position.
     pub fn report(&mut self, label: u8) -> Result<usize, Fault>
         ensures same { self.new.game ≡ self.old.game }
-        ensures value { result ≡ report_answer (meaning self.old.game) self.old.memory.position label }
-        ensures after { self.new.memory ≡ after result self.old.memory (moved_to self.old.memory (behind (meaning self.old.game) self.old.memory.position label)) }
-        ensures extends { Extends (meaning self.old.game) self.old.memory (Report label) (answered Reported result) self.new.memory }
+        ensures value { result ≡ report_answer (G.meaning self.old.game) self.old.memory.position label }
+        ensures after { self.new.memory ≡ after result self.old.memory (moved_to self.old.memory (behind (G.meaning self.old.game) self.old.memory.position label)) }
+        ensures extends { Extends (G.meaning self.old.game) self.old.memory (Report label) (answered Reported result) self.new.memory }
     {
         let answer = self.judge_report(label);
         let to = self.behind(label);
@@ -240,7 +242,7 @@ impl<G: Game> Watch<G> {
     }
 
     fn judge_rate(&self, state: usize) -> Result<Rating, Fault>
-        ensures { result ≡ rate_answer (meaning self.now.game) (ranking_of self.now.memory) self.now.memory.planned state }
+        ensures { result ≡ rate_answer (G.meaning self.now.game) (ranking_of self.now.memory) self.now.memory.planned state }
     {
         if state >= self.game.size() {
             return Err(Fault::NoState);
@@ -254,9 +256,9 @@ impl<G: Game> Watch<G> {
     // Says of a state whether it is done, held with its rank and choice, or lost and how.
     pub fn rate(&mut self, state: usize) -> Result<Rating, Fault>
         ensures same { self.new.game ≡ self.old.game }
-        ensures value { result ≡ rate_answer (meaning self.old.game) (ranking_of self.old.memory) self.old.memory.planned state }
+        ensures value { result ≡ rate_answer (G.meaning self.old.game) (ranking_of self.old.memory) self.old.memory.planned state }
         ensures after { self.new.memory ≡ after result self.old.memory self.old.memory }
-        ensures extends { Extends (meaning self.old.game) self.old.memory (Rate state) (answered Rated result) self.new.memory }
+        ensures extends { Extends (G.meaning self.old.game) self.old.memory (Rate state) (answered Rated result) self.new.memory }
     {
         let answer = self.judge_rate(state);
         let stay = self.memory.position;
@@ -267,9 +269,9 @@ impl<G: Game> Watch<G> {
     // changes.
     fn change_bar(&mut self, label: u8, member: bool) -> Result<u32, Fault>
         ensures same { self.new.game ≡ self.old.game }
-        ensures value { result ≡ change_answer (meaning self.old.game) (bars_of self.old.memory) label member }
+        ensures value { result ≡ change_answer (G.meaning self.old.game) (bars_of self.old.memory) label member }
         ensures after { self.new.memory ≡ after result self.old.memory (changed self.old.memory label member) }
-        ensures extends { Extends (meaning self.old.game) self.old.memory (change_call member label) (answered Barred result) self.new.memory }
+        ensures extends { Extends (G.meaning self.old.game) self.old.memory (change_call member label) (answered Barred result) self.new.memory }
     {
         if label >= self.game.labels() {
             count(&mut self.memory);
@@ -285,9 +287,9 @@ impl<G: Game> Watch<G> {
     // Bars a label to the kiosk, and answers how many are barred.
     pub fn bar(&mut self, label: u8) -> Result<u32, Fault>
         ensures same { self.new.game ≡ self.old.game }
-        ensures value { result ≡ change_answer (meaning self.old.game) (bars_of self.old.memory) label true }
+        ensures value { result ≡ change_answer (G.meaning self.old.game) (bars_of self.old.memory) label true }
         ensures after { self.new.memory ≡ after result self.old.memory (changed self.old.memory label true) }
-        ensures extends { Extends (meaning self.old.game) self.old.memory (Bar label) (answered Barred result) self.new.memory }
+        ensures extends { Extends (G.meaning self.old.game) self.old.memory (Bar label) (answered Barred result) self.new.memory }
     {
         self.change_bar(label, true)
     }
@@ -295,16 +297,16 @@ impl<G: Game> Watch<G> {
     // Lifts the bar of a label, and answers how many are still barred.
     pub fn lift(&mut self, label: u8) -> Result<u32, Fault>
         ensures same { self.new.game ≡ self.old.game }
-        ensures value { result ≡ change_answer (meaning self.old.game) (bars_of self.old.memory) label false }
+        ensures value { result ≡ change_answer (G.meaning self.old.game) (bars_of self.old.memory) label false }
         ensures after { self.new.memory ≡ after result self.old.memory (changed self.old.memory label false) }
-        ensures extends { Extends (meaning self.old.game) self.old.memory (Lift label) (answered Barred result) self.new.memory }
+        ensures extends { Extends (G.meaning self.old.game) self.old.memory (Lift label) (answered Barred result) self.new.memory }
     {
         self.change_bar(label, false)
     }
 
     // Whether the position is at the public's turn.
     fn turn(&self) -> Option<bool>
-        ensures { result ≡ option_map (meaning self.now.game).public self.now.memory.position }
+        ensures { result ≡ option_map (G.meaning self.now.game).public self.now.memory.position }
     {
         match self.memory.position {
             Some(p) => Some(self.game.is_public(p)),
@@ -313,7 +315,7 @@ impl<G: Game> Watch<G> {
     }
 
     fn is_over(&self) -> bool
-        ensures { result ≡ over_at (meaning self.now.game) self.now.memory.position }
+        ensures { result ≡ over_at (G.meaning self.now.game) self.now.memory.position }
     {
         match self.memory.position {
             Some(p) => is_done(&self.game, p),
@@ -323,8 +325,8 @@ impl<G: Game> Watch<G> {
 
     // Shows the run, the bars, whether a plan stands, and how many calls were refused.
     pub fn look(&self) -> View
-        ensures value { result ≡ look_answer (meaning self.now.game) self.now.memory.position self.now.memory.bars self.now.memory.planned self.now.memory.refusals }
-        ensures extends { Extends (meaning self.now.game) self.now.memory Look (Seen result) self.now.memory }
+        ensures value { result ≡ look_answer (G.meaning self.now.game) self.now.memory.position self.now.memory.bars self.now.memory.planned self.now.memory.refusals }
+        ensures extends { Extends (G.meaning self.now.game) self.now.memory Look (Seen result) self.now.memory }
     {
         View {
             position: self.memory.position,
@@ -350,7 +352,7 @@ impl<G: Game> Watch<G> {
         ensures same { self.new.game ≡ self.old.game }
         ensures value { result ≡ leave_answer self.old.memory.position }
         ensures after { self.new.memory ≡ after result self.old.memory (moved_to self.old.memory None) }
-        ensures extends { Extends (meaning self.old.game) self.old.memory Leave (answered Left result) self.new.memory }
+        ensures extends { Extends (G.meaning self.old.game) self.old.memory Leave (answered Left result) self.new.memory }
     {
         let answer = self.judge_leave();
         self.finish(answer, None)
@@ -372,7 +374,7 @@ fn count(memory: &mut Memory)
 
 // Whether the label leads to a state whose cell has no rank.
 fn leads_to_unranked<G: Game>(game: &G, cells: &[Cell], s: usize, l: u8) -> bool
-    ensures { result ≡ leads_to ((meaning game.now).next s l) (λ t. not (is_some (cell_at cells.now t).rank)) }
+    ensures { result ≡ leads_to ((G.meaning game.now).next s l) (λ t. not (is_some (cell_at cells.now t).rank)) }
 {
     match game.next(s, l) {
         Some(t) => cell_at(cells, t).rank.is_none(),
@@ -382,7 +384,7 @@ fn leads_to_unranked<G: Game>(game: &G, cells: &[Cell], s: usize, l: u8) -> bool
 
 // The lowest label to a state whose cell has no rank, or 0.
 fn witness<G: Game>(game: &G, cells: &[Cell], s: usize) -> u8
-    ensures { result ≡ unwrap_or (witness_by (meaning game.now) (ranking_in cells.now).rank s) 0 }
+    ensures { result ≡ unwrap_or (witness_by (G.meaning game.now) (ranking_in cells.now).rank s) 0 }
 {
     for l in 0..game.labels() {
         if leads_to_unranked(game, cells, s, l) {
@@ -393,7 +395,7 @@ fn witness<G: Game>(game: &G, cells: &[Cell], s: usize) -> u8
 }
 
 fn rating<G: Game>(game: &G, cells: &[Cell], s: usize) -> Rating
-    ensures { result ≡ rating (meaning game.now) (ranking_in cells.now) s }
+    ensures { result ≡ rating (G.meaning game.now) (ranking_in cells.now) s }
 {
     let cell = cell_at(cells, s);
     match cell.rank {

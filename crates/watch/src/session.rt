@@ -21,7 +21,7 @@ impl<G: Game> Watch<G> {
     // Carries out one call.
     pub fn ask(&mut self, call: Call) -> Answer
         ensures same { self.new.game ≡ self.old.game }
-        ensures extends { Extends (meaning self.old.game) self.old.memory call result self.new.memory }
+        ensures extends { Extends (G.meaning self.old.game) self.old.memory call result self.new.memory }
     {
         match call {
             Call::Plan => told!(self.plan(), verdict => Answer::Planned(verdict)),
@@ -41,7 +41,7 @@ impl<G: Game> Watch<G> {
         ensures same { self.new.game ≡ self.old.game }
         ensures value { result ≡ carried_out calls.now answers.old }
         ensures rest { drop result answers.new ≡ drop result answers.old }
-        ensures extends { (L : Log) → Lived (meaning self.old.game) L self.old.memory → Lived (meaning self.old.game) (log_of result calls.now answers.new L) self.new.memory }
+        ensures extends { (L : Log) → Lived (G.meaning self.old.game) L self.old.memory → Lived (G.meaning self.old.game) (log_of result calls.now answers.new L) self.new.memory }
     {
         let n = calls.len().min(answers.len());
         for i in 0..n {
@@ -55,7 +55,7 @@ impl<G: Game> Watch<G> {
 pub fn watch_all<G: Game + Drop>(game: G, calls: &[Call], answers: &mut [Answer]) -> usize
     ensures value { result ≡ carried_out calls.now answers.old }
     ensures rest { drop result answers.new ≡ drop result answers.old }
-    ensures law { LawHolds (meaning game) (log_of result calls.now answers.new []) }
+    ensures law { LawHolds (G.meaning game) (log_of result calls.now answers.new []) }
 {
     let mut watch = Watch::new(game);
     watch.carry_out(calls, answers)

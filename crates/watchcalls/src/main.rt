@@ -1,4 +1,6 @@
 // Asks a new watch, over a sheet in a file or over Nim, the calls on standard input, and prints its answers.
+#![tactic(auto)]
+
 use console::{converse, parse_number};
 use game::Game;
 use nim::Nim;

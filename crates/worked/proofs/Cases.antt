@@ -1,5 +1,5 @@
 -- The worked cases hold.
-use Rattle.std.proofs.Common.{◌≡◌, ℕ, ◌<◌, List, [], ◌++◌, codes, decimal, refl, ap, ◌∙◌, lit<, lit≤}
+use Rattle.std.proofs.Common.{◌≡◌, [], ◌++◌, codes, decimal, refl, ap, ◌∙◌, lit<, lit≤}
 use Rattle.std.proofs.lemmas.Fmt.{decimal_digit, decimal_step}
 use Rattle.game.specs.Ranks.{within, rank, choice, witness}
 use Rattle.law.specs.Checks.{first_fault}

@@ -1,4 +1,6 @@
 // The house game, asked any list of calls; and worked cases, proved jointly on the definitions that the contracts use.
+#![tactic(auto)]
+
 ghost use Rattle.std.specs.Prelude.{◌≡◌, take, drop};
 ghost use Rattle.watch.specs.Lived.{carried_out};
 ghost use Rattle.worked.specs.House.{house, house_rows, house_moves};

@@ -1,4 +1,6 @@
 // The writer of sheets: two tables and the bytes that hold the names into an output that the caller lends.
+#![tactic(auto)]
+
 ghost use Rattle.std.specs.Prelude.{◌≡◌, ◌+◌, ◌≤◌, length, take, drop, IfOk, None};
 ghost use Rattle.std.specs.List.{AllByRecursion as All};
 ghost use Rattle.format.specs.Format.{head_bytes, state_bytes, move_bytes, end_bytes, encode};

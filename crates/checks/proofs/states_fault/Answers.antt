@@ -10,4 +10,4 @@ returns-in-Some g c =
     first_of_found (state_fault m) c.loop-s.s m.size c.in-Some.f c.loop-s.invariant (sym c.state_fault.ensures ∙ c.in-Some.is) in'
 
 pub loop-s-preserved : goal.loop-s-preserved
-loop-s-preserved g c = first_of_more (state_fault (g.G.Game.meaning c.args.game.now)) c.loop-s.s c.loop-s.invariant (sym c.state_fault.ensures ∙ c.in-default.is)
+loop-s-preserved g c = first_of_more (state_fault (g.G.Game.meaning c.args.game.now)) c.loop-s.s c.loop-s.invariant (sym c.state_fault.ensures ∙ c.in_default.is)

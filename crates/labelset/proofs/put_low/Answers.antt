@@ -6,8 +6,8 @@ use Rattle.labelset.proofs.put_low.Goals as goal
 
 pub returns-then-member : goal.returns-then-member
 returns-then-member c l =
-    c.put-bit.ensures l ∙ put_in c.args.label l (has_bit c.args.set l) ∙ ap (λ t. set_label (has_bit c.args.set) c.args.label t l) (sym c.if-member.true)
+    c.put_bit.ensures l ∙ put_in c.args.label l (has_bit c.args.set l) ∙ ap (λ t. set_label (has_bit c.args.set) c.args.label t l) (sym c.if-member.true)
 
 pub returns-else-member : goal.returns-else-member
 returns-else-member c l =
-    c.clear-bit.ensures l ∙ taken_out c.args.label l (has_bit c.args.set l) ∙ ap (λ t. set_label (has_bit c.args.set) c.args.label t l) (sym c.if-member.false)
+    c.clear_bit.ensures l ∙ taken_out c.args.label l (has_bit c.args.set l) ∙ ap (λ t. set_label (has_bit c.args.set) c.args.label t l) (sym c.if-member.false)

@@ -6,8 +6,8 @@ use Rattle.labelset.proofs.put_or_none.Goals as goal
 
 pub returns-then-label-lt-LABELS : goal.returns-then-label-lt-LABELS
 returns-then-label-lt-LABELS c = record {
-  value = whole_set c.put-low.result (set_label (has_bit c.args.set) c.args.label c.args.member) c.put-low.type-inv (λ l _. c.put-low.ensures l);
-  labels = λ _. c.put-low.ensures;
+  value = whole_set c.put_low.result (set_label (has_bit c.args.set) c.args.label c.args.member) c.put_low.type_inv (λ l _. c.put_low.ensures l);
+  labels = λ _. c.put_low.ensures;
 }
 
 pub returns-else-label-lt-LABELS : goal.returns-else-label-lt-LABELS

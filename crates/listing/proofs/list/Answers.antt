@@ -8,7 +8,7 @@ pub returns : goal.returns
 returns g c =
     let m = g.G.Game.meaning c.args.watch.now.game in
     let ok = g.G.Game.lawful c.args.watch.now.game in
-    let told = c.list-watch.ensures in
+    let told = c.list_watch.ensures in
     record {
       value = told.value;
       lived = told.lived;

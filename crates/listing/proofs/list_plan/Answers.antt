@@ -7,9 +7,9 @@ use Rattle.listing.proofs.list_plan.Goals as goal
 pub returns-in-Held : goal.returns-in-Held
 returns-in-Held g c =
     let m = g.G.Game.meaning c.args.game.now in
-    c.list-held.ensures ∙ ap (λ v. put_whole (text_after m (ranking_in c.args.cells.now) v) c.args.out.now) c.in-Held.ensures
+    c.list_held.ensures ∙ ap (λ v. put_whole (text_after m (ranking_in c.args.cells.now) v) c.args.out.now) c.in-Held.ensures
 
 pub returns-in-Lost : goal.returns-in-Lost
 returns-in-Lost g c =
     let m = g.G.Game.meaning c.args.game.now in
-    c.list-lost.ensures ∙ ap (λ v. put_whole (text_after m (ranking_in c.args.cells.now) v) c.args.out.now) c.in-Lost.ensures
+    c.list_lost.ensures ∙ ap (λ v. put_whole (text_after m (ranking_in c.args.cells.now) v) c.args.out.now) c.in-Lost.ensures

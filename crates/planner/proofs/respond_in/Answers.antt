@@ -26,12 +26,12 @@ returns-in-Ok c =
     let small : (i : ℕ) → get_or c.args.bytes.now i 0 < 256 = λ i. search rules in
     let k = length c.args.moves.now in
     let counts = c.in-Ok.counts in
-    let sheet = c.sheet-of.result in
+    let sheet = c.sheet_of.result in
     let same : game_text (sheet_meaning sheet.rows.now sheet.moves.now) ≡ bytes_text n k c.args.bytes.now =
-    ap (λ rows. game_text (sheet_meaning rows sheet.moves.now)) c.sheet-of.ensures.rows
-    ∙ ap (λ moves. game_text (sheet_meaning (take counts.states c.read.new.rows) moves)) c.sheet-of.ensures.moves
+    ap (λ rows. game_text (sheet_meaning rows sheet.moves.now)) c.sheet_of.ensures.rows
+    ∙ ap (λ moves. game_text (sheet_meaning (take counts.states c.read.new.rows) moves)) c.sheet_of.ensures.moves
     ∙ printed_of n k c.args.bytes.now (Ok counts) c.read.new.rows c.read.new.moves c.in-Ok.ensures.value in
-    let both = carried _ (bytes_text n k c.args.bytes.now) c.args.out.now c.plan-game.new.out c.plan-game.result same c.plan-game.ensures.value c.plan-game.ensures.short in
+    let both = carried _ (bytes_text n k c.args.bytes.now) c.args.out.now c.plan_game.new.out c.plan_game.result same c.plan_game.ensures.value c.plan_game.ensures.short in
     record { value = both.0; told = told n k c.args.bytes.now small; short = both.1 }
 
 pub returns-in-Err : goal.returns-in-Err
@@ -45,5 +45,5 @@ returns-in-Err c =
     ∙ ap (λ x. refusal_line (number_of fault) x c.offset.result) c.index.ensures
     ∙ ap (λ x. refusal_line (number_of fault) (index_of fault) x) c.offset.ensures
     ∙ printed_of n k c.args.bytes.now (Err fault) c.read.new.rows c.read.new.moves c.in-Err.ensures.value in
-    let both = carried _ (bytes_text n k c.args.bytes.now) c.args.out.now c.put-refusal.new.out c.put-refusal.result same c.put-refusal.ensures.value c.put-refusal.ensures.short in
+    let both = carried _ (bytes_text n k c.args.bytes.now) c.args.out.now c.put_refusal.new.out c.put_refusal.result same c.put_refusal.ensures.value c.put_refusal.ensures.short in
     record { value = both.0; told = told n k c.args.bytes.now small; short = both.1 }

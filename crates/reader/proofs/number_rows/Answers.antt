@@ -5,8 +5,8 @@ use Rattle.sheet.specs.Sheets.{zero_row}
 use Rattle.reader.specs.Stored.{count_of, numbered, with_first}
 use Rattle.reader.proofs.number_rows.Goals as goal
 
-pub overflow-add-first : goal.overflow-add-first
-overflow-add-first c = omega (arith, sum_by-drop_more count_of c.loop-row.rows c.loop-row.row-index zero_row (omega arith), c.loop-row.invariant.0, c.requires)
+pub overflow_add-first : goal.overflow_add-first
+overflow_add-first c = omega (arith, sum_by-drop_more count_of c.loop-row.rows c.loop-row.row-index zero_row (omega arith), c.loop-row.invariant.0, c.requires)
 
 pub loop-row-preserved : goal.loop-row-preserved
 loop-row-preserved c =

@@ -15,7 +15,7 @@ returns c =
     let n = length c.args.rows.now in
     let m = length c.args.moves.now in
     let bs = c.args.bytes.now in
-    let v = c.read-tables.ensures in
+    let v = c.read_tables.ensures in
     let e = subst (λ (t : Result Counts SheetFault × List Row × List Move). ReadExactly n m bs t) (sym v) (exactly n m bs) in
     let small : (i : ℕ) → get_or bs i 0 < 256 = λ i. search rules in
     record {

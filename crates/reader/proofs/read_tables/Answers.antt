@@ -9,8 +9,8 @@ none_counted : (n : ℕ) → sum_by count_of (replicate n zero_row) ≡ 0
 none_counted zero = refl
 none_counted (suc n) = sum_by-cons count_of zero_row (replicate n zero_row) ∙ omega (arith, none_counted n)
 
-pub read-all-requires : goal.read-all-requires
-read-all-requires c = ap (sum_by count_of) c.clear-rows.ensures ∙ none_counted (length c.args.rows.now)
+pub read_all-requires : goal.read_all-requires
+read_all-requires c = ap (sum_by count_of) c.clear_rows.ensures ∙ none_counted (length c.args.rows.now)
 
 pub returns-in-Ok : goal.returns-in-Ok
 returns-in-Ok c =
@@ -19,6 +19,6 @@ returns-in-Ok c =
     let bs = c.args.bytes.now in
     ap (ended n m)
     (c.in-Ok.ensures
-    ∙ ap (λ x. tables_after x c.clear-moves.new.moves bs) c.clear-rows.ensures
-    ∙ ap (λ x. tables_after (replicate n zero_row) x bs) c.clear-moves.ensures)
+    ∙ ap (λ x. tables_after x c.clear_moves.new.moves bs) c.clear_rows.ensures
+    ∙ ap (λ x. tables_after (replicate n zero_row) x bs) c.clear_moves.ensures)
     ∙ closed n m bs

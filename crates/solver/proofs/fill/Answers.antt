@@ -7,8 +7,8 @@ use Rattle.solver.proofs.Ends.{last_layer}
 use Rattle.solver.proofs.Begins.{zero_linked, begun_at}
 use Rattle.solver.proofs.fill.Goals as goal
 
-pub link-all-requires : goal.link-all-requires
-link-all-requires g c = record { few = c.requires.few; before = zero_linked (g.G.Game.meaning c.args.game.now) (has_bit c.args.bars) (replicate 4096 0) (replicate 262144 0) (getD_zeros 4096) }
+pub link_all-requires : goal.link_all-requires
+link_all-requires g c = record { few = c.requires.few; before = zero_linked (g.G.Game.meaning c.args.game.now) (has_bit c.args.bars) (replicate 4096 0) (replicate 262144 0) (getD_zeros 4096) }
 
 pub begin-requires : goal.begin-requires
 begin-requires g c = record { few = c.requires.few; room = omega (arith, c.requires.room, c.clear.auto.cells); blank = c.clear.ensures; none = refl }
@@ -16,14 +16,14 @@ begin-requires g c = record { few = c.requires.few; room = omega (arith, c.requi
 pub loop-lo-init : goal.loop-lo-init
 loop-lo-init g c = (begun_at (g.G.Game.meaning c.args.game.now) (g.G.Game.lawful c.args.game.now) (has_bit c.args.bars) c.begin.new.cells c.begin.new.work.queue c.begin.new.work.ptr c.begin.new.work.tail c.begin.ensures.after (λ s. ap (λ (x : _). get_or {A = ℕ} x s 0) c.begin.ensures.ptr ∙ getD_zeros 4096 s), omega arith)
 
-pub overflow-add-k : goal.overflow-add-k
-overflow-add-k g c = omega (arith, c.loop-lo-test.true, c.loop-lo.invariant.1, c.requires.few, c.loop-lo.invariant.0.counted, many_le (has_cell c.loop-lo.cells) (g.G.Game.meaning c.args.game.now).size)
+pub overflow_add-k : goal.overflow_add-k
+overflow_add-k g c = omega (arith, c.loop-lo-test.true, c.loop-lo.invariant.1, c.requires.few, c.loop-lo.invariant.0.counted, many_le (has_cell c.loop-lo.cells) (g.G.Game.meaning c.args.game.now).size)
 
 pub layer-requires : goal.layer-requires
 layer-requires g c = record {
   few = c.requires.few;
   room = omega (arith, c.requires.room, c.clear.auto.cells, c.begin.auto.cells, c.loop-lo.auto.cells);
-  linked = c.link-all.ensures;
+  linked = c.link_all.ensures;
   at = (c.loop-lo.k, add-one c.loop-lo.k, c.loop-lo.invariant.0);
 }
 

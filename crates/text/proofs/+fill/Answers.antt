@@ -21,8 +21,8 @@ returns-then-n-lt10 t c =
     let e : decimal c.args.n ≡ (48 + c.args.n) ∷ [] = decimal_digit c.args.n (omega arith) in
     set_last [] c.args.place.now 0 _ refl (sym c.requires ∙ ap length e) ∙ sym e
 
-pub overflow-sub-last : goal.overflow-sub-last
-overflow-sub-last t c = omega (arith, decimal_nonempty c.args.n (omega arith), c.requires)
+pub overflow_sub-last : goal.overflow_sub-last
+overflow_sub-last t c = omega (arith, decimal_nonempty c.args.n (omega arith), c.requires)
 
 pub fill-requires : goal.fill-requires
 fill-requires t c =

@@ -6,8 +6,8 @@ use Rattle.text.proofs.write_count.Goals as goal
 pub write-end-requires : goal.write-end-requires
 write-end-requires c = omega (arith, count_length c.args.lead.now c.args.n, c.requires)
 
-pub write-one-requires : goal.write-one-requires
-write-one-requires c = omega (arith, count_length c.args.lead.now c.args.n, c.requires)
+pub write_one-requires : goal.write_one-requires
+write_one-requires c = omega (arith, count_length c.args.lead.now c.args.n, c.requires)
 
 pub returns : goal.returns
-returns c = written_then c.write-end.ensures c.write-one.ensures
+returns c = written_then c.write-end.ensures c.write_one.ensures

@@ -6,8 +6,8 @@ use Rattle.text.proofs.write_line.Goals as goal
 pub write-end-requires : goal.write-end-requires
 write-end-requires c = omega (arith, line_length c.args.lead.now c.args.a c.args.b c.args.c, c.requires)
 
-pub write-three-requires : goal.write-three-requires
-write-three-requires c = omega (arith, line_length c.args.lead.now c.args.a c.args.b c.args.c, c.requires)
+pub write_three-requires : goal.write_three-requires
+write_three-requires c = omega (arith, line_length c.args.lead.now c.args.a c.args.b c.args.c, c.requires)
 
 pub returns : goal.returns
-returns c = written_then c.write-end.ensures c.write-three.ensures
+returns c = written_then c.write-end.ensures c.write_three.ensures

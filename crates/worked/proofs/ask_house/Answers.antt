@@ -1,4 +1,4 @@
-use Rattle.std.proofs.Common.{◌≡◌, ◌<◌, List, [], ◌++◌, length, take, refl, ap, ◌∙◌, subst, arith, length-take}
+use Rattle.std.proofs.Common.{◌≡◌, List, [], length, take, subst, arith, length-take}
 use Rattle.sheet.specs.declared.Row.{Row}
 use Rattle.sheet.specs.declared.Move.{Move}
 use Rattle.sheet.specs.Sheets.{sheet_meaning}
@@ -12,15 +12,15 @@ use Rattle.worked.proofs.ask_house.Goals as goal
 pub returns : goal.returns
 returns c =
     let calls = c.args.calls.now in
-    let r = c.watch-all.result in
-    let told = take r c.watch-all.new.answers in
+    let r = c.watch_all.result in
+    let told = take r c.watch_all.new.answers in
     let kept : Kept house (logged (take r calls) told []) =
-    subst (λ (x : List Row). Kept (sheet_meaning x house_moves) (logged (take r calls) told [])) c.house-rows-rows.ensures
-    (subst (λ (x : List Move). Kept (sheet_meaning c.house-rows-rows.result x) (logged (take r calls) told [])) c.house-moves-moves.ensures c.watch-all.ensures.law.right) in
-    let long : length told ≡ length (take r calls) = omega (arith, length-take r c.watch-all.new.answers, length-take r calls, c.watch-all.ensures.value, c.watch-all.auto.answers) in
+    subst (λ (x : List Row). Kept (sheet_meaning x house_moves) (logged (take r calls) told [])) c.house_rows-rows.ensures
+    (subst (λ (x : List Move). Kept (sheet_meaning c.house_rows-rows.result x) (logged (take r calls) told [])) c.house_moves-moves.ensures c.watch_all.ensures.law.right) in
+    let long : length told ≡ length (take r calls) = omega (arith, length-take r c.watch_all.new.answers, length-take r calls, c.watch_all.ensures.value, c.watch_all.auto.answers) in
     record {
-      value = c.watch-all.ensures.value;
+      value = c.watch_all.ensures.value;
       right = kept_answers house (take r calls) told [] long kept;
-      rest = c.watch-all.ensures.rest;
+      rest = c.watch_all.ensures.rest;
       cases = worked;
     }

@@ -9,12 +9,12 @@ use Rattle.writer.specs.Parts.{rows_bytes, verdict}
 use Rattle.writer.proofs.Judging.{row, rest_is, unsound_here, sound_here, moves_left_over, all_sound}
 use Rattle.writer.proofs.judge.Goals as goal
 
-pub row-sound-requires : goal.row-sound-requires
-row-sound-requires c = c.loop-i.invariant.3
+pub row_sound-requires : goal.row_sound-requires
+row_sound-requires c = c.loop-i.invariant.3
 
-pub returns-then-not-row-sound : goal.returns-then-not-row-sound
-returns-then-not-row-sound c =
-    let found = unsound_here c.args.rows.now c.args.names.now c.args.moves.now c.loop-i.i c.loop-i.first (omega arith) (sym c.row_sound.ensures ∙ c.if-not-row-sound.true) in
+pub returns-then-not-row_sound : goal.returns-then-not-row_sound
+returns-then-not-row_sound c =
+    let found = unsound_here c.args.rows.now c.args.names.now c.args.moves.now c.loop-i.i c.loop-i.first (omega arith) (sym c.row_sound.ensures ∙ c.if-not-row_sound.true) in
     sym (ap (λ o. verdict o (length (rows_bytes c.args.names.now c.args.rows.now))) (sym c.loop-i.invariant.0 ∙ found))
 
 pub loop-i-preserved : goal.loop-i-preserved
@@ -25,7 +25,7 @@ loop-i-preserved c =
     let i = c.loop-i.i in
     let first = c.loop-i.first in
     let r : Row = row rows names ms i first in
-    let sound : row_sound (length rows) names ms first r ≡ true = sym c.row_sound.ensures ∙ c.if-not-row-sound.false in
+    let sound : row_sound (length rows) names ms first r ≡ true = sym c.row_sound.ensures ∙ c.if-not-row_sound.false in
     let parts = sound_row (length rows) names ms first r sound in
     let named = name_length names r parts.inside in
     let more = ap (λ l. length (rows_bytes names l)) (rest_is rows names ms i first (omega arith)) ∙ length-append (state_bytes (state_in names r)) (rows_bytes names (drop (i + 1) rows)) in (

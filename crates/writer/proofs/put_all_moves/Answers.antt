@@ -1,4 +1,4 @@
-use Rattle.std.proofs.Common.{◌≡◌, ◌+◌, ◌-◌, [], length, get_or, take, drop, sym, ap, ◌∙◌, arith, length-append}
+use Rattle.std.proofs.Common.{◌≡◌, ◌+◌, [], length, get_or, take, drop, sym, ap, ◌∙◌, arith, length-append}
 use Rattle.std.proofs.lemmas.List.{drop_all}
 use Rattle.sheet.specs.Sheets.{zero_row}
 use Rattle.format.specs.Writing.{put}
@@ -7,8 +7,8 @@ use Rattle.writer.proofs.Over.{put_put, put_none}
 use Rattle.writer.proofs.Sizes.{row_next}
 use Rattle.writer.proofs.put_all_moves.Goals as goal
 
-pub put-row-moves-at-requires : goal.put-row-moves-at-requires
-put-row-moves-at-requires c =
+pub put_row_moves-at-requires : goal.put_row_moves-at-requires
+put_row_moves-at-requires c =
     let rows = c.args.rows.now in
     let ms = c.args.moves.now in
     let i = c.loop-i.i in
@@ -18,8 +18,8 @@ put-row-moves-at-requires c =
     let n = ap length q.2 ∙ length-append (moves_bytes i (take row.count (drop first ms))) (arcs_bytes (i + 1) (drop (i + 1) rows) (drop (first + row.count) ms)) in
     record { inside = q.0.reaches; fits = omega (arith, n, c.loop-i.invariant.1, c.requires.fits, c.loop-i.auto.out) }
 
-pub overflow-add-first : goal.overflow-add-first
-overflow-add-first c =
+pub overflow_add-first : goal.overflow_add-first
+overflow_add-first c =
     let rows = c.args.rows.now in
     let ms = c.args.moves.now in
     let i = c.loop-i.i in
@@ -40,9 +40,9 @@ loop-i-preserved c =
     let v = arcs_bytes (i + 1) (drop (i + 1) rows) (drop (first + row.count) ms) in
     let n = ap length q.2 ∙ length-append w v in (
       q.1,
-      omega (arith, n, c.loop-i.invariant.1, c.put-row-moves-at.ensures.value),
-      ap (put c.put-row-moves-at.result v) c.put-row-moves-at.ensures.after
-          ∙ put_put c.loop-i.at w v c.loop-i.out c.put-row-moves-at.result (omega (arith, n, c.loop-i.invariant.1, c.requires.fits, c.loop-i.auto.out)) c.put-row-moves-at.ensures.value
+      omega (arith, n, c.loop-i.invariant.1, c.put_row_moves-at.ensures.value),
+      ap (put c.put_row_moves-at.result v) c.put_row_moves-at.ensures.after
+          ∙ put_put c.loop-i.at w v c.loop-i.out c.put_row_moves-at.result (omega (arith, n, c.loop-i.invariant.1, c.requires.fits, c.loop-i.auto.out)) c.put_row_moves-at.ensures.value
           ∙ ap (λ l. put c.loop-i.at l c.loop-i.out) (sym q.2)
           ∙ c.loop-i.invariant.2,
     )

@@ -7,5 +7,5 @@ use Rattle.writer.proofs.put_move.Goals as goal
 pub returns : goal.returns
 returns c = record {
   value = refl;
-  after = put_from_tail (move_bytes (arc_of c.args.source c.args.m)) c.args.out.now c.write-move.new.out c.args.at c.requires.fits c.write-move.ensures;
+  after = put_from_tail (move_bytes (arc_of c.args.source c.args.m)) c.args.out.now c.write_move.new.out c.args.at c.requires.fits c.write_move.ensures;
 }

@@ -8,8 +8,8 @@ use Rattle.writer.specs.Parts.{moves_bytes}
 use Rattle.writer.proofs.Over.{put_put, put_none}
 use Rattle.writer.proofs.put_moves.Goals as goal
 
-pub put-move-at-requires : goal.put-move-at-requires
-put-move-at-requires c =
+pub put_move-at-requires : goal.put_move-at-requires
+put_move-at-requires c =
     let ms = c.args.moves.now in
     let s = c.args.source in
     let i = c.loop-m.m-index in
@@ -29,9 +29,9 @@ loop-m-preserved c =
     let w = move_bytes (arc_of s m) in
     let e : drop i ms ≡ m ∷ more = drop_more ms i _ (omega arith) in
     let n : length (moves_bytes s (drop i ms)) ≡ 7 + length (moves_bytes s more) = ap (λ l. length (moves_bytes s l)) e ∙ length-append w (moves_bytes s more) in (
-      omega (arith, n, c.loop-m.invariant.0, c.put-move-at.ensures.value),
-      ap (put c.put-move-at.result (moves_bytes s more)) c.put-move-at.ensures.after
-          ∙ put_put c.loop-m.at w (moves_bytes s more) c.loop-m.out c.put-move-at.result (omega (arith, n, c.loop-m.invariant.0, c.requires.fits, c.loop-m.auto.out)) c.put-move-at.ensures.value
+      omega (arith, n, c.loop-m.invariant.0, c.put_move-at.ensures.value),
+      ap (put c.put_move-at.result (moves_bytes s more)) c.put_move-at.ensures.after
+          ∙ put_put c.loop-m.at w (moves_bytes s more) c.loop-m.out c.put_move-at.result (omega (arith, n, c.loop-m.invariant.0, c.requires.fits, c.loop-m.auto.out)) c.put_move-at.ensures.value
           ∙ ap (λ l. put c.loop-m.at (moves_bytes s l) c.loop-m.out) (sym e)
           ∙ c.loop-m.invariant.1,
     )

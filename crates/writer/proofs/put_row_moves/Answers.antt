@@ -3,8 +3,8 @@ use Rattle.format.specs.Writing.{put}
 use Rattle.writer.specs.Parts.{moves_bytes}
 use Rattle.writer.proofs.put_row_moves.Goals as goal
 
-pub put-moves-requires : goal.put-moves-requires
-put-moves-requires c =
+pub put_moves-requires : goal.put_moves-requires
+put_moves-requires c =
     let f = c.args.first in
     let k = c.args.count in
     let e : (f + k) - f ≡ k = omega arith in
@@ -19,6 +19,6 @@ returns c =
     let ms = c.args.moves.now in
     let e : (f + k) - f ≡ k = omega arith in
     record {
-      value = c.put-moves.ensures.value ∙ ap (λ j. c.args.at + length (moves_bytes s (take j (drop f ms)))) e;
-      after = c.put-moves.ensures.after ∙ ap (λ j. put c.args.at (moves_bytes s (take j (drop f ms))) c.args.out.now) e;
+      value = c.put_moves.ensures.value ∙ ap (λ j. c.args.at + length (moves_bytes s (take j (drop f ms)))) e;
+      after = c.put_moves.ensures.after ∙ ap (λ j. put c.args.at (moves_bytes s (take j (drop f ms))) c.args.out.now) e;
     }

@@ -16,6 +16,6 @@ returns c =
     record {
       value = omega (arith, ap length n);
       after =
-          put_from_tail (state_bytes (state_in names r)) out c.write-state.new.out c.args.at c.requires.fits
-          (c.write-state.ensures ∙ ap (λ m. over (state_bytes (state_of r.flags m)) (take (length out - c.args.at) (drop c.args.at out))) n);
+          put_from_tail (state_bytes (state_in names r)) out c.write_state.new.out c.args.at c.requires.fits
+          (c.write_state.ensures ∙ ap (λ m. over (state_bytes (state_of r.flags m)) (take (length out - c.args.at) (drop c.args.at out))) n);
     }

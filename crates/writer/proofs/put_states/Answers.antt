@@ -10,8 +10,8 @@ use Rattle.writer.specs.Parts.{rows_bytes, Named}
 use Rattle.writer.proofs.Over.{put_put, put_none}
 use Rattle.writer.proofs.put_states.Goals as goal
 
-pub put-state-at-requires : goal.put-state-at-requires
-put-state-at-requires c =
+pub put_state-at-requires : goal.put_state-at-requires
+put_state-at-requires c =
     let names = c.args.names.now in
     let i = c.loop-row.row-index in
     let row = get_or c.args.rows.now i zero_row in
@@ -32,9 +32,9 @@ loop-row-preserved c =
     let a : All (Named names) (row ∷ more) = subst (λ (l : List Row). All (Named names) l) e c.loop-row.invariant.0 in
     let s : length (rows_bytes names (drop i c.args.rows.now)) ≡ length w + length (rows_bytes names more) = ap (λ l. length (rows_bytes names l)) e ∙ length-append w (rows_bytes names more) in (
       a.1,
-      omega (arith, s, c.loop-row.invariant.1, c.put-state-at.ensures.value),
-      ap (put c.put-state-at.result (rows_bytes names more)) c.put-state-at.ensures.after
-          ∙ put_put c.loop-row.at w (rows_bytes names more) c.loop-row.out c.put-state-at.result (omega (arith, s, c.loop-row.invariant.1, c.requires.fits, c.loop-row.auto.out)) c.put-state-at.ensures.value
+      omega (arith, s, c.loop-row.invariant.1, c.put_state-at.ensures.value),
+      ap (put c.put_state-at.result (rows_bytes names more)) c.put_state-at.ensures.after
+          ∙ put_put c.loop-row.at w (rows_bytes names more) c.loop-row.out c.put_state-at.result (omega (arith, s, c.loop-row.invariant.1, c.requires.fits, c.loop-row.auto.out)) c.put_state-at.ensures.value
           ∙ ap (λ l. put c.loop-row.at (rows_bytes names l) c.loop-row.out) (sym e)
           ∙ c.loop-row.invariant.2,
     )

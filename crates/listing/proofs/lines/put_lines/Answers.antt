@@ -9,8 +9,8 @@ use Rattle.listing.proofs.lines.put_lines.Goals as goal
 pub loop-s-init : goal.loop-s-init
 loop-s-init g c = written_none c.args.out.now c.args.at (omega (arith, c.requires.room))
 
-pub put-state-end-requires : goal.put-state-end-requires
-put-state-end-requires g c =
+pub put_state-end-requires : goal.put_state-end-requires
+put_state-end-requires g c =
     let m = g.G.Game.meaning c.args.game.now in
     let ρ = ranking_in c.args.cells.now in
     let s : ℕ = c.loop-s.s in
@@ -25,7 +25,7 @@ pub loop-s-preserved : goal.loop-s-preserved
 loop-s-preserved g c =
     let m = g.G.Game.meaning c.args.game.now in
     let ρ = ranking_in c.args.cells.now in
-    subst (λ x. Written c.args.out.now c.args.at x c.put-state-end.result c.put-state-end.new.out) (sym (lines_more m ρ c.loop-s.s)) (written_then c.loop-s.invariant c.put-state-end.ensures)
+    subst (λ x. Written c.args.out.now c.args.at x c.put_state-end.result c.put_state-end.new.out) (sym (lines_more m ρ c.loop-s.s)) (written_then c.loop-s.invariant c.put_state-end.ensures)
 
 pub returns : goal.returns
 returns g c =

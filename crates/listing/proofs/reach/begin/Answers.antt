@@ -7,17 +7,17 @@ use Rattle.listing.proofs.reach.begin.Goals as goal
 pub loop-s-init : goal.loop-s-init
 loop-s-init g c = (c.requires.before, λ t lt e. absurd (omega arith))
 
-pub begin-at-requires : goal.begin-at-requires
-begin-at-requires g c = record { few = c.requires.few; state = omega (arith, c.size-s-end.ensures, c.loop-s-test.true); before = c.loop-s.invariant.0 }
+pub begin_at-requires : goal.begin_at-requires
+begin_at-requires g c = record { few = c.requires.few; state = omega (arith, c.size-s-end.ensures, c.loop-s-test.true); before = c.loop-s.invariant.0 }
 
 pub loop-s-preserved : goal.loop-s-preserved
 loop-s-preserved g c = (
-  c.begin-at.ensures.walking,
+  c.begin_at.ensures.walking,
   λ t lt e. ⊎_elim
-      (λ less. c.begin-at.ensures.later.grows t (c.loop-s.invariant.1 t less e))
+      (λ less. c.begin_at.ensures.later.grows t (c.loop-s.invariant.1 t less e))
       (λ ge.
       let same : t ≡ c.loop-s.s = omega arith in
-      ap (marked c.begin-at.new.walk.seen) same ∙ c.begin-at.ensures.here (ap (g.G.Game.meaning c.args.game.now).start (sym same) ∙ e))
+      ap (marked c.begin_at.new.walk.seen) same ∙ c.begin_at.ensures.here (ap (g.G.Game.meaning c.args.game.now).start (sym same) ∙ e))
       (cases_lt t c.loop-s.s),
 )
 

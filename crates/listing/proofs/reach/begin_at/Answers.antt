@@ -14,11 +14,11 @@ visit-requires g c =
       room = λ new. omega (arith, c.requires.few, walk_room m ok none c.args.walk.now.queue c.args.walk.now.seen c.args.walk.now.tail (c.requires.before none) c.args.s c.requires.state new);
     }
 
-pub returns-then-is-start : goal.returns-then-is-start
-returns-then-is-start g c =
+pub returns-then-is_start : goal.returns-then-is_start
+returns-then-is_start g c =
     let m = g.G.Game.meaning c.args.game.now in
     record {
-      walking = λ ρ. c.visit.ensures.walking m ρ c.requires.state (reaches_start m ρ c.args.s (sym c.is-start.ensures ∙ c.if-is-start.true)) (c.requires.before ρ);
+      walking = λ ρ. c.visit.ensures.walking m ρ c.requires.state (reaches_start m ρ c.args.s (sym c.is_start.ensures ∙ c.if-is_start.true)) (c.requires.before ρ);
       later = c.visit.ensures.later;
       here = λ _. c.visit.ensures.here;
     }

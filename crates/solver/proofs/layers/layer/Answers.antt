@@ -1,4 +1,4 @@
-use Rattle.std.proofs.Common.{◌≡◌, suc, ◌-◌, ◌/◌, get_or, sym, ap, ◌∙◌, subst, ⊎_elim, arith}
+use Rattle.std.proofs.Common.{◌≡◌, suc, ◌/◌, get_or, sym, ap, ◌∙◌, subst, ⊎_elim, arith}
 use Rattle.std.proofs.lemmas.Bool.{cases_lt}
 use Rattle.labelset.specs.Bits.{has_bit}
 use Rattle.solver.specs.Run.{Run, Moved, At, Followed, has_cell}
@@ -17,8 +17,8 @@ loop-i-init g c =
       λ j le lt. absurd (omega arith),
     )
 
-pub offset-bounds-work-i : goal.offset-bounds-work-i
-offset-bounds-work-i g c = omega (arith, c.loop-i-test.true, c.requires.few, c.requires.at.2.counted, many_le (has_cell c.args.cells.now) (g.G.Game.meaning c.args.game.now).size)
+pub offset_bounds-work-i : goal.offset_bounds-work-i
+offset_bounds-work-i g c = omega (arith, c.loop-i-test.true, c.requires.few, c.requires.at.2.counted, many_le (has_cell c.args.cells.now) (g.G.Game.meaning c.args.game.now).size)
 
 pub bounds-work-i : goal.bounds-work-i
 bounds-work-i g c = omega (arith, c.loop-i-test.true, c.requires.few, c.requires.at.2.counted, many_le (has_cell c.args.cells.now) (g.G.Game.meaning c.args.game.now).size)

@@ -11,14 +11,14 @@ ripe-requires g c =
     let ok = g.G.Game.lawful c.args.game.now in
     record { room = c.requires.room; state = omega (arith, c.requires.state, c.requires.places); late = c.requires.late; moves = c.requires.moves; from = (c.requires.pointed c.args.s).0; before = low_pointed m ok (has_bit c.args.bars) c.args.k c.args.s c.args.cells.now c.args.ptr.now c.requires.mid c.requires.pointed }
 
-pub returns-then-has-rank : goal.returns-then-has-rank
-returns-then-has-rank g c =
+pub returns-then-has_rank : goal.returns-then-has_rank
+returns-then-has_rank g c =
     let m = g.G.Game.meaning c.args.game.now in
     let ok = g.G.Game.lawful c.args.game.now in
     record {
       cells = refl;
       new = λ e. absurd (both_ways _ refl e);
-      old = λ _. had m ok (has_bit c.args.bars) c.args.k c.args.s c.args.cells.now c.requires.mid (sym c.has-rank.ensures ∙ c.if-has-rank.true);
+      old = λ _. had m ok (has_bit c.args.bars) c.args.k c.args.s c.args.cells.now c.requires.mid (sym c.has_rank.ensures ∙ c.if-has_rank.true);
       pointed = c.requires.pointed;
     }
 
@@ -26,7 +26,7 @@ pub returns-in-Some : goal.returns-in-Some
 returns-in-Some g c =
     let m = g.G.Game.meaning c.args.game.now in
     let ok = g.G.Game.lawful c.args.game.now in
-    let none = sym c.has-rank.ensures ∙ c.if-has-rank.false in
+    let none = sym c.has_rank.ensures ∙ c.if-has_rank.false in
     let got = gets m ok (has_bit c.args.bars) c.args.k c.args.s c.args.cells.now c.in-Some.c c.requires.mid none (sym c.ripe.ensures.value ∙ c.in-Some.is) in
     let x = c.ripe.ensures.pointer in
     record {
@@ -40,7 +40,7 @@ pub returns-in-None : goal.returns-in-None
 returns-in-None g c =
     let m = g.G.Game.meaning c.args.game.now in
     let ok = g.G.Game.lawful c.args.game.now in
-    let none = sym c.has-rank.ensures ∙ c.if-has-rank.false in
+    let none = sym c.has_rank.ensures ∙ c.if-has_rank.false in
     let x = c.ripe.ensures.pointer in
     record {
       cells = refl;

@@ -51,5 +51,5 @@ returns g c =
       same = refl;
       value = value';
       after = left;
-      extends = carried m d _ _ (change_call t x) Barred (Ok c.size.result) right value' (left ∙ ap (λ r. after r d (changed d x t)) value') (change_extends m ok d x t (λ _. (n, c.put-bars.type-inv, c.put-bars.ensures.labels small, c.put-bars.ensures.value)));
+      extends = carried m d _ _ (change_call t x) Barred (Ok c.size.result) right value' (left ∙ ap (λ r. after r d (changed d x t)) value') (change_extends m ok d x t (λ _. (n, c.put-bars.type_inv, c.put-bars.ensures.labels small, c.put-bars.ensures.value)));
     }

@@ -12,8 +12,8 @@ returns g c =
     let ok = g.G.Game.lawful c.args.self.now.game in
     let d = c.args.self.now.memory in
     let right = leave_answer d.position in
-    let value' : c.finish.result ≡ right = c.finish.ensures.value ∙ c.judge-leave-answer.ensures in
-    let left : c.finish.new.self.memory ≡ after right d (moved_to d None) = c.finish.ensures.after ∙ ap (λ r. after r d (moved_to d None)) c.judge-leave-answer.ensures in
+    let value' : c.finish.result ≡ right = c.finish.ensures.value ∙ c.judge_leave-answer.ensures in
+    let left : c.finish.new.self.memory ≡ after right d (moved_to d None) = c.finish.ensures.after ∙ ap (λ r. after r d (moved_to d None)) c.judge_leave-answer.ensures in
     record {
       same = c.finish.ensures.same;
       value = value';

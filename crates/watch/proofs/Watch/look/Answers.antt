@@ -12,7 +12,7 @@ returns g c =
     let m = g.G.Game.meaning c.args.self.now.game in
     let ok = g.G.Game.lawful c.args.self.now.game in
     let d = c.args.self.now.memory in
-    let view : View = record { position = d.position; public = c.turn.result; over = c.is-over.result; bars = d.bars; planned = d.planned; refusals = d.refusals } in
+    let view : View = record { position = d.position; public = c.turn.result; over = c.is_over.result; bars = d.bars; planned = d.planned; refusals = d.refusals } in
     let value' : view ≡ look_answer m d.position d.bars d.planned d.refusals =
-    λ i. record { position = d.position; public = c.turn.ensures i; over = c.is-over.ensures i; bars = d.bars; planned = d.planned; refusals = d.refusals } in
+    λ i. record { position = d.position; public = c.turn.ensures i; over = c.is_over.ensures i; bars = d.bars; planned = d.planned; refusals = d.refusals } in
     record { value = value'; extends = subst (λ v. Extends m d Look (Seen v) d) (sym value') (look_extends m ok d) }

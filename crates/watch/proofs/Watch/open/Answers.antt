@@ -12,8 +12,8 @@ returns g c =
     let ok = g.G.Game.lawful c.args.self.now.game in
     let d = c.args.self.now.memory in
     let right = open_answer m (ranking_of d) d.planned d.position c.args.state in
-    let value' : c.finish.result ≡ right = c.finish.ensures.value ∙ c.judge-open-answer.ensures in
-    let left : c.finish.new.self.memory ≡ after right d (moved_to d (Some c.args.state)) = c.finish.ensures.after ∙ ap (λ r. after r d (moved_to d (Some c.args.state))) c.judge-open-answer.ensures in
+    let value' : c.finish.result ≡ right = c.finish.ensures.value ∙ c.judge_open-answer.ensures in
+    let left : c.finish.new.self.memory ≡ after right d (moved_to d (Some c.args.state)) = c.finish.ensures.after ∙ ap (λ r. after r d (moved_to d (Some c.args.state))) c.judge_open-answer.ensures in
     record {
       same = c.finish.ensures.same;
       value = value';

@@ -21,7 +21,7 @@ returns-in-Some g c =
     let m = g.G.Game.meaning c.args.self.now.game in
     let ok = g.G.Game.lawful c.args.self.now.game in
     let d = c.args.self.now.memory in
-    let found : first_fault m ≡ Some c.in-Some.fault = sym c.find-fault.ensures ∙ c.in-Some.is in
+    let found : first_fault m ≡ Some c.in-Some.fault = sym c.find_fault.ensures ∙ c.in-Some.is in
     record {
       same = refl;
       value = sym (ap (λ o. plan_answer o (plan_verdict m (rank m (bars_of d)))) found);
@@ -37,7 +37,7 @@ returns-in-None g c =
     let m = g.G.Game.meaning c.args.self.now.game in
     let ok = g.G.Game.lawful c.args.self.now.game in
     let d = c.args.self.now.memory in
-    let none : first_fault m ≡ None = sym c.find-fault.ensures ∙ c.in-None.is in
+    let none : first_fault m ≡ None = sym c.find_fault.ensures ∙ c.in-None.is in
     let few : m.size ≤ 4096 = (no_fault_sound m ok none).few_states in
     let long : length d.table.cells ≡ 4096 = search rules in
     let t : Table = record { cells = c.solve.new.cells } in

@@ -12,8 +12,8 @@ returns g c =
     let ok = g.G.Game.lawful c.args.self.now.game in
     let d = c.args.self.now.memory in
     let right = rate_answer m (ranking_of d) d.planned c.args.state in
-    let value' : c.finish.result ≡ right = c.finish.ensures.value ∙ c.judge-rate-answer.ensures in
-    let left : c.finish.new.self.memory ≡ after right d d = c.finish.ensures.after ∙ ap (λ r. after r d d) c.judge-rate-answer.ensures in
+    let value' : c.finish.result ≡ right = c.finish.ensures.value ∙ c.judge_rate-answer.ensures in
+    let left : c.finish.new.self.memory ≡ after right d d = c.finish.ensures.after ∙ ap (λ r. after r d d) c.judge_rate-answer.ensures in
     record {
       same = c.finish.ensures.same;
       value = value';

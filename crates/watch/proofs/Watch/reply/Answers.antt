@@ -12,9 +12,9 @@ returns g c =
     let ok = g.G.Game.lawful c.args.self.now.game in
     let d = c.args.self.now.memory in
     let right = reply_answer m (ranking_of d) d.planned d.position in
-    let value' : c.finish.result ≡ right = c.finish.ensures.value ∙ c.judge-reply-answer.ensures in
-    let to : c.replied-to-to.result ≡ replied_to m d c.finish.result = c.replied-to-to.ensures ∙ ap (replied_to m d) (sym c.finish.ensures.value) in
-    let left : c.finish.new.self.memory ≡ after c.finish.result d (moved_to d (replied_to m d c.finish.result)) = c.finish.ensures.after ∙ ap (λ r. after r d (moved_to d c.replied-to-to.result)) (sym c.finish.ensures.value) ∙ ap (λ p. after c.finish.result d (moved_to d p)) to in
+    let value' : c.finish.result ≡ right = c.finish.ensures.value ∙ c.judge_reply-answer.ensures in
+    let to : c.replied_to-to.result ≡ replied_to m d c.finish.result = c.replied_to-to.ensures ∙ ap (replied_to m d) (sym c.finish.ensures.value) in
+    let left : c.finish.new.self.memory ≡ after c.finish.result d (moved_to d (replied_to m d c.finish.result)) = c.finish.ensures.after ∙ ap (λ r. after r d (moved_to d c.replied_to-to.result)) (sym c.finish.ensures.value) ∙ ap (λ p. after c.finish.result d (moved_to d p)) to in
     record {
       same = c.finish.ensures.same;
       value = value';

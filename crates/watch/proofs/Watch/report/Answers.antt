@@ -13,8 +13,8 @@ returns g c =
     let ok = g.G.Game.lawful c.args.self.now.game in
     let d = c.args.self.now.memory in
     let right = report_answer m d.position c.args.label in
-    let value' : c.finish.result ≡ right = c.finish.ensures.value ∙ c.judge-report-answer.ensures in
-    let left : c.finish.new.self.memory ≡ after right d (moved_to d (behind m d.position c.args.label)) = c.finish.ensures.after ∙ ap (λ r. after r d (moved_to d c.behind-to.result)) c.judge-report-answer.ensures ∙ ap (λ p. after right d (moved_to d p)) c.behind-to.ensures in
+    let value' : c.finish.result ≡ right = c.finish.ensures.value ∙ c.judge_report-answer.ensures in
+    let left : c.finish.new.self.memory ≡ after right d (moved_to d (behind m d.position c.args.label)) = c.finish.ensures.after ∙ ap (λ r. after r d (moved_to d c.behind-to.result)) c.judge_report-answer.ensures ∙ ap (λ p. after right d (moved_to d p)) c.behind-to.ensures in
     record {
       same = c.finish.ensures.same;
       value = value';
