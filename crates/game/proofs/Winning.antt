@@ -4,7 +4,7 @@ use Rattle.std.proofs.lemmas.Bool.{cases_Bool, cond-true, cond-false, and_parts,
 use Rattle.game.specs.Meaning.{Meaning, Lawful, done, Step}
 use Rattle.game.specs.Ranks.{Bars, leads_to, lowest_label, within, rank, is, choice, choice_at, witness, LowestOfBest}
 use Rattle.game.specs.Strategies.{Move, at, Play, Strategy, Follows, Stops, WinsWithin, opening}
-use Rattle.game.specs.Final.{Unblocked, TakesWitness, Final}
+use Rattle.game.specs.Final.{Unblocked, TakesWitness, Final, NoneEndless}
 use Rattle.game.proofs.Meanings.{label_low}
 use Rattle.game.proofs.Searches.{is_eq, eq_is, reaches_from, reaches_to, none_some, same_some, option_cases, first_is, first_none, first_some, first_same}
 use Rattle.game.proofs.Layers.{l_kiosk, l_public, within_to, within_done, ranked, rank_within}
@@ -268,6 +268,9 @@ opening_long f (suc n) = ap suc (opening_long f n)
 pub no_endless : {m : Meaning} {b : Bars} {w : Strategy m b} {k s : ℕ} → WinsWithin m b w k s → (f : ℕ → Move) → ((n : ℕ) → Follows m b w s (opening f n)) → ⊥
 no_endless {k = k} win f follows = omega (arith, win.short (opening f (suc k)) (follows (suc k)), opening_long f (suc k))
 
+pub none_endless : (m : Meaning) (b : Bars) → NoneEndless m b
+none_endless m b w k s win = no_endless win
+
 pub final : (m : Meaning) → Lawful m → Unblocked m → (b : Bars) → Final m b
 unfolding choices
 final m ok unblocked b = record {
@@ -275,7 +278,6 @@ final m ok unblocked b = record {
   has_choice = λ s r nd kio e. choice_has m ok b s r nd kio e;
   lowest_choice = choice_lowest m ok b;
   choices_win = (choices m ok b, λ s h. refl, choices_win m ok b);
-  none_endless = λ w k s win. no_endless win;
   none_better = λ w k s win. no_strategy_better m ok b unblocked w k s win;
   has_witness = λ s pub' ne un. let l = witness_has m ok b unblocked s pub' ne un in (l.0, l.1, witness_is m ok b s l.0 ne l.1);
   lost_for_good = witness_wins m ok b;

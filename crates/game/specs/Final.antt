@@ -26,11 +26,13 @@ pub record Final (m : Meaning) (b : Bars) : Type 0 where
   pub lowest_choice : (s l : ℕ) → choice m b s ≡ Some l → LowestOfBest m b s l
   -- the choices win within the rank, from every ranked state
   pub choices_win : (w : Strategy m b) × PlaysChoices m b w × ((s r : ℕ) → rank m b s ≡ Some r → WinsWithin m b w r s)
-  -- no endless play follows a strategy that wins
-  pub none_endless : (w : Strategy m b) (k s : ℕ) → WinsWithin m b w k s → (f : ℕ → Move) → ((n : ℕ) → Follows m b w s (opening f n)) → ⊥
   -- a strategy that wins within k from a state shows that its rank is at most k
   pub none_better : (w : Strategy m b) (k s : ℕ) → WinsWithin m b w k s → (r : ℕ) × (rank m b s ≡ Some r) × (r ≤ k)
   -- a public state without rank that is no end has a witness, which leads to a state without rank
   pub has_witness : (s : ℕ) → m.public s ≡ true → m.end s ≡ false → rank m b s ≡ None → (l : ℕ) × (witness m b s ≡ Some l) × ((t : ℕ) × Step m s l t × (rank m b t ≡ None))
   -- against the witnesses no play from a state without rank stops at a goal
   pub lost_for_good : (w : Strategy m b) (s : ℕ) → rank m b s ≡ None → (h : List Move) → Follows m b w s h → TakesWitness m b s h → Stops m b w s h → m.goal (at s h) ≡ false
+
+-- no endless play follows a strategy that wins within k
+abbrev pub NoneEndless : Meaning → Bars → Type 0
+NoneEndless m b = (w : Strategy m b) (k s : ℕ) → WinsWithin m b w k s → (f : ℕ → Move) → ((n : ℕ) → Follows m b w s (opening f n)) → ⊥

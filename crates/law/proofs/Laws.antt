@@ -21,7 +21,7 @@ use Rattle.law.specs.declared.Rating.TheVariants.{LostEnd, LostKiosk, LostPublic
 use Rattle.law.specs.Checks.{first_fault, Sound}
 use Rattle.law.specs.Answers.{ranking, refuse_if, or_fault, verdict, lost_start, start_rank, plan_verdict, plan_answer, with_rank, rank_of, chosen_move, reply_answer, report_answer, rating, rating_at}
 use Rattle.law.specs.Log.{Entry, Log, accepted, says, barred, changes, is_plan, stands, position, is_move, accepted_moves, breaks_off, behind, answered_label, moved}
-use Rattle.law.specs.Law.{answered, replied, answer, Kept, Would, PlanIsFinal, Undisturbed, RunEnds, TakesRated, LossWitnessed, Law, OverOrOn}
+use Rattle.law.specs.Law.{answered, replied, answer, Kept, Would, PlanIsFinal, WordIsFinal, Undisturbed, RunEnds, TakesRated, LossWitnessed, Law, OverOrOn}
 use Rattle.game.proofs.Meanings.{start_inside, public_inside, step_feasible, feasible_step}
 use Rattle.game.proofs.Searches.{none_some, same_some, option_cases, first_none, first_all, highest_ge, highest_le, first_is, some_is}
 use Rattle.game.proofs.Rules.{zero_done, goes_on}
@@ -121,6 +121,12 @@ module _ (m : Meaning) (ok : Lawful m) (L : Log) where
   unfolding answer
   would_sound e = accepted_plan m ok (barred L) (first_fault m) e
 
+  pub word_final : WordIsFinal m L
+  unfolding answer
+  word_final v e =
+      let both = planned_is m ok (barred L) (first_fault m) v e in
+      subst (VerdictIs m (barred L)) both.1 (verdict_is m ok (barred L) (no_fault_sound m ok both.0))
+
   pub plan_final : PlanIsFinal m L
   unfolding answer
   plan_final = record {
@@ -131,15 +137,9 @@ module _ (m : Meaning) (ok : Lawful m) (L : Log) where
         let unblocked = sound_unblocked m ok (no_fault_sound m ok none) in
         let got = all_ranked_held m ok (barred L) (λ s st. let one = win s st in ap is_some (no_strategy_better m ok (barred L) unblocked w one.0 s one.1).1) in
         (got.0, ap (planned m ok (barred L)) none ∙ got.1);
-    won_if_held = λ n e. let held = word (Held n) e in (held.strategy, held.wins);
-    no_sooner = λ n e. (word (Held n) e).least;
-    word_is_final = word;
+    won_if_held = λ n e. let held = word_final (Held n) e in (held.strategy, held.wins);
+    no_sooner = λ n e. (word_final (Held n) e).least;
   }
-    where
-      word : (v : Verdict) → planned m ok (barred L) (first_fault m) ≡ Planned v → VerdictIs m (barred L) v
-      word v e =
-          let both = planned_is m ok (barred L) (first_fault m) v e in
-          subst (VerdictIs m (barred L)) both.1 (verdict_is m ok (barred L) (no_fault_sound m ok both.0))
 
 -- Runs
 

@@ -55,8 +55,10 @@ pub record PlanIsFinal (m : Meaning) (L : Log) : Type 0 where
   -- after held one wins within the number answered, and whichever wins within k has k at least that number
   pub won_if_held : (n : ℕ) → answer m L Plan ≡ Planned (Held n) → (w : Strategy m (barred L)) × WinsAllWithin m (barred L) w n
   pub no_sooner : (n : ℕ) → answer m L Plan ≡ Planned (Held n) → (w : Strategy m (barred L)) (k : ℕ) → WinsAllWithin m (barred L) w k → n ≤ k
-  -- and its word is true: held only if one wins, within the number answered and none sooner; lost only if none does
-  pub word_is_final : (v : Verdict) → answer m L Plan ≡ Planned v → VerdictIs m (barred L) v
+
+-- ITS WORD IS TRUE: held only if one strategy wins, within the number answered and none sooner; lost only if none does
+abbrev pub WordIsFinal : Meaning → Log → Type 0
+WordIsFinal m L = (v : Verdict) → answer m L Plan ≡ Planned v → VerdictIs m (barred L) v
 
 -- K came after L, and in it neither the barred labels changed nor was the run broken off
 abbrev pub Undisturbed : Log → Log → Type 0

@@ -3,7 +3,7 @@
 
 ghost use Rattle.std.specs.Prelude.{◌≡◌, true, false, not, [], is_some, IfOk, Some, None, OnOk};
 ghost use Rattle.std.specs.Option.{option_map, unwrap_or};
-ghost use Rattle.game.specs.Final.{Final};
+ghost use Rattle.game.specs.Final.{Final, NoneEndless};
 ghost use Rattle.game.specs.Ranks.{leads_to, rank, witness_by};
 ghost use Rattle.law.specs.declared.Call.TheVariants.{Plan, Open, Reply, Report, Rate, Bar, Lift, Look, Leave};
 ghost use Rattle.law.specs.declared.Answer.TheVariants.{Planned, Opened, Reported, Rated, Barred, Seen, Left};
@@ -97,6 +97,7 @@ impl<G: Game> Watch<G> {
         ensures checked { Checked (G.meaning self.old.game) result }
         ensures word { IfOk result (VerdictIs (G.meaning self.old.game) (bars_of self.old.memory)) }
         ensures finality { OnOk result (Final (G.meaning self.old.game) (bars_of self.old.memory)) }
+        ensures endless { OnOk result (NoneEndless (G.meaning self.old.game) (bars_of self.old.memory)) }
     {
         match checks::find_fault(&self.game) {
             Some(fault) => {

@@ -1,6 +1,7 @@
 // Lists of calls, carried out one after the other.
 ghost use Rattle.std.specs.Prelude.{◌≡◌, [], drop};
 ghost use Rattle.law.specs.Log.{Log};
+ghost use Rattle.law.specs.Law.{WordIsFinal};
 ghost use Rattle.watch.specs.Lived.{Lived, Extends, LawHolds, carried_out, log_of};
 
 use crate::Watch;
@@ -56,6 +57,7 @@ pub fn watch_all<G: Game + Drop>(game: G, calls: &[Call], answers: &mut [Answer]
     ensures value { result ≡ carried_out calls.now answers.old }
     ensures rest { drop result answers.new ≡ drop result answers.old }
     ensures law { LawHolds (G.meaning game) (log_of result calls.now answers.new []) }
+    ensures word { WordIsFinal (G.meaning game) (log_of result calls.now answers.new []) }
 {
     let mut watch = Watch::new(game);
     watch.carry_out(calls, answers)

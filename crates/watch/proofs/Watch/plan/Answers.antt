@@ -1,6 +1,7 @@
 use Rattle.std.proofs.Common.{◌≡◌, ◌≤◌, length, Some, None, Ok, sym, refl, ap, ◌∙◌, subst, arith, rules}
 use Rattle.std.proofs.lemmas.Bool.{and_from, le-leb}
 use Rattle.game.specs.Ranks.{rank}
+use Rattle.game.proofs.Winning.{none_endless}
 use Rattle.law.specs.declared.Call.TheVariants.{Plan}
 use Rattle.law.specs.declared.Answer.TheVariants.{Planned, Refused}
 use Rattle.law.specs.Checks.{first_fault}
@@ -30,6 +31,7 @@ returns-in-Some g c =
       checked = fault_is m ok c.in-Some.fault found;
       word = tt;
       finality = tt;
+      endless = tt;
     }
 
 pub returns-in-None : goal.returns-in-None
@@ -51,4 +53,5 @@ returns-in-None g c =
       checked = no_fault_sound m ok none;
       word = subst (VerdictIs m (bars_of d)) (sym said) (verdict_is m ok (bars_of d) (no_fault_sound m ok none));
       finality = plan_final m ok (bars_of d) none;
+      endless = none_endless m (bars_of d);
     }
