@@ -1,7 +1,7 @@
 -- Each refusal of a reading has its reason.
 
 use Rattle.std.proofs.Common.{◌≡◌, ℕ, zero, suc, ◌+◌, ◌-◌, ◌<◌, ◌≤◌, Bool, true, false, cond, eqb, leb, List, [], ◌∷◌, ◌++◌, map, length, get_or, take, drop, replicate, Some, None, Ok, Err, Option, Result, sym, refl, ap, ◌∙◌, subst, inl, inr, ⊎_elim, append_assoc, arith, length-append, length-drop}
-use Rattle.std.specs.List.{flat_map, AllByRecursion as All}
+use Rattle.std.specs.List.{flat_map, AllByRecursion}
 use Rattle.std.proofs.ByRecursion.{All-append, All-push}
 use Rattle.std.proofs.lemmas.List.{append-nil, map-append, length-map, length-replicate, length_push, flat_map_more, take_at, take-take, take-append-drop, drop-take, length-take-le}
 use Rattle.std.proofs.lemmas.Bool.{leb-true, leb-false, eqb-true, eqb-false, cond-true, cond-false, cases_Bool, cases_lt, both_ways}
@@ -53,7 +53,7 @@ records_count s =
 records_front : (h : List ℕ) (xs ys : List (List ℕ)) (i : ℕ) → i ≡ suc (length xs) → flat_map (λ r. r) (take i (h ∷ (xs ++ ys))) ≡ h ++ flat_map (λ r. r) xs
 records_front h xs ys i e = ap (λ k. flat_map (λ r. r) (take k (h ∷ (xs ++ ys)))) e ∙ ap (λ x. h ++ flat_map (λ r. r) x) (take_at xs ys (length xs) refl)
 
-blanks : (k : ℕ) → All StateFits (replicate k no_state)
+blanks : (k : ℕ) → AllByRecursion StateFits (replicate k no_state)
 blanks zero = tt
 blanks (suc k) = ((refl, omega arith, refl), blanks k)
 
@@ -74,7 +74,7 @@ module _ (bs : List ℕ) where
   good_none : Good 0 0 bs
   good_none = (omega arith, (record { states = no_state ∷ []; moves = [] }, (omega arith, omega arith, (blanks 1), tt, tt), omega arith, refl))
 
-  good_states : (size at i : ℕ) (ss : List State) → 1 ≤ size → size ≤ 4096 → length ss ≤ size → i ≡ suc (length ss) → All StateFits ss → at ≤ length bs → head_bytes size ++ flat_map state_bytes ss ≡ take at bs → Good i at bs
+  good_states : (size at i : ℕ) (ss : List State) → 1 ≤ size → size ≤ 4096 → length ss ≤ size → i ≡ suc (length ss) → AllByRecursion StateFits ss → at ≤ length bs → head_bytes size ++ flat_map state_bytes ss ≡ take at bs → Good i at bs
   good_states size at i ss low high few n f l h =
       let pad = replicate (size - length ss) no_state in
       let s : Sheet = record { states = ss ++ pad; moves = [] } in
@@ -149,7 +149,7 @@ module _ (bs : List ℕ) where
 
     -- behind the states `ss`, of which the last ends at `at`
     abbrev Behind : List State → ℕ → ℕ → ℕ → Type 0
-    Behind ss k at n = (length ss + k ≡ size) × (n ≡ suc (length ss)) × All StateFits ss × (at ≤ length bs) × (head_bytes size ++ flat_map state_bytes ss ≡ take at bs)
+    Behind ss k at n = (length ss + k ≡ size) × (n ≡ suc (length ss)) × AllByRecursion StateFits ss × (at ≤ length bs) × (head_bytes size ++ flat_map state_bytes ss ≡ take at bs)
 
     abbrev StatesWrong : SheetFault → ℕ → Type 0
     StatesWrong f k = (at n : ℕ) (ss : List State) → Behind ss k at n → states_from k bs at n ≡ Err f → Reasoned at f (Rows k at n)
@@ -215,7 +215,7 @@ module _ (bs : List ℕ) where
       counted : length arcs ≡ k
       reached : at ≤ length bs
       stands : (head_bytes size ++ flat_map state_bytes ss) ++ flat_map move_bytes arcs ≡ take at bs
-      fits : (more : List Arc) → All (ArcFits size) more → Rising last more → Fits (record { states = ss; moves = arcs ++ more })
+      fits : (more : List Arc) → AllByRecursion (ArcFits size) more → Rising last more → Fits (record { states = ss; moves = arcs ++ more })
 
     after_fits : (last : Option Arc) (at k : ℕ) (b : After last at k) → Fits (record { states = b.ss; moves = b.arcs })
     after_fits last at k b = subst (λ x. Fits (record { states = b.ss; moves = x })) (append-nil b.arcs) (b.fits [] tt tt)
@@ -497,7 +497,7 @@ module _ (bs : List ℕ) where
           counted = refl;
           reached = omega (arith, to, l);
           stands = append-nil (head_bytes size ++ j) ∙ ap (λ x. x ++ j) (sym (append-nil (head_bytes size)) ∙ begun.4) ∙ sym (take_grow 5 nx j to s.4);
-          fits = λ more fm rm. (omega (arith, len), omega (arith, len), s.3, subst (λ k. All (ArcFits k) more) (sym len) fm, rm);
+          fits = λ more fm rm. (omega (arith, len), omega (arith, len), s.3, subst (λ k. AllByRecursion (ArcFits k) more) (sym len) fm, rm);
         } in
         subst (λ x. Reasoned 0 x (Sheets n m)) (err_same _ _ w)
         (lift_all 0 nx g (Moves size low high m None nx 0) (Sheets n m) (omega arith)

@@ -1,7 +1,7 @@
 -- Rows that are sound one behind the other.
 
 use Rattle.std.proofs.Common.{◌≡◌, ℕ, zero, suc, ◌+◌, ◌-◌, ◌≤◌, Bool, true, false, cond, eqb, ◌⊎◌, List, [], ◌∷◌, ◌++◌, map, length, take, drop, replicate, Some, None, Option, sym, refl, ap, ◌∙◌, subst, inl, inr, ⊎_elim, arith}
-use Rattle.std.specs.List.{AllByRecursion as All}
+use Rattle.std.specs.List.{AllByRecursion}
 use Rattle.std.proofs.lemmas.List.{drop-take, take-take, length-take-le}
 use Rattle.std.proofs.lemmas.List.Sums.{sum_by-cons}
 use Rattle.std.proofs.lemmas.Bool.{cond-true, eq-eqb, eqb-true, eqb-false}
@@ -82,11 +82,11 @@ module _ (size : ℕ) where
       let i = chain_within names ms rs (first + r.count) c.0.reaches c.1 in
       ((let a = i.0 in omega (arith, a)), i.1)
 
-  pub chain_names : (names : List ℕ) (ms : List Move) (rows : List Row) (first : ℕ) → Chain names ms first rows → All (NameInside names) rows
+  pub chain_names : (names : List ℕ) (ms : List Move) (rows : List Row) (first : ℕ) → Chain names ms first rows → AllByRecursion (NameInside names) rows
   chain_names names ms [] first c = tt
   chain_names names ms (r ∷ rs) first c = (c.0.inside, chain_names names ms rs (first + r.count) c.1)
 
-  pub chain_moves : (names : List ℕ) (ms : List Move) (rows : List Row) (first : ℕ) → Chain names ms first rows → All (MovesInside ms) rows
+  pub chain_moves : (names : List ℕ) (ms : List Move) (rows : List Row) (first : ℕ) → Chain names ms first rows → AllByRecursion (MovesInside ms) rows
   chain_moves names ms [] first c = tt
   chain_moves names ms (r ∷ rs) first c =
       let b = c.0.begins in
@@ -94,7 +94,7 @@ module _ (size : ℕ) where
       (omega (arith, b, e), chain_moves names ms rs (first + r.count) c.1)
 
   -- where the names lie does not matter, nor what else the move table holds
-  pub chain_elsewhere : (names bs : List ℕ) (ms ns : List Move) (rows : List Row) (first at : ℕ) → Chain bs ns first (relocated at rows) → map (state_in bs) (relocated at rows) ≡ map (state_in names) rows → map (moves_in ns) rows ≡ map (moves_in ms) rows → All (NameInside names) rows → All (MovesInside ms) rows → Chain names ms first rows
+  pub chain_elsewhere : (names bs : List ℕ) (ms ns : List Move) (rows : List Row) (first at : ℕ) → Chain bs ns first (relocated at rows) → map (state_in bs) (relocated at rows) ≡ map (state_in names) rows → map (moves_in ns) rows ≡ map (moves_in ms) rows → AllByRecursion (NameInside names) rows → AllByRecursion (MovesInside ms) rows → Chain names ms first rows
   chain_elsewhere names bs ms ns [] first at c e m a b = tt
   chain_elsewhere names bs ms ns (r ∷ rs) first at c e m a b =
       let q : Row = record { flags = r.flags; place = at + 4; len = r.len; first = r.first; count = r.count } in

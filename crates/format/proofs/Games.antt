@@ -1,7 +1,7 @@
 -- The tables of a sheet stand for its game.
 use Rattle.std.proofs.Common.{◌≡◌, ℕ, zero, suc, ◌+◌, ◌<◌, ◌≤◌, Bool, true, false, cond, ◌&&◌, eqb, ltb, ◌⊎◌, List, [], ◌∷◌, map, length, get_or, take, drop, Some, None, Ok, Err, Option, Result, sym, refl, ap, ◌∙◌, subst, inl, inr, ⊎_elim, zero-add, arith}
 use lib.Bits.{bit_and}
-use Rattle.std.specs.List.{ContainsAt as Has, AllByRecursion as All}
+use Rattle.std.specs.List.{ContainsAt, AllByRecursion}
 use Rattle.std.proofs.lemmas.List.Sums.{sum_by-cons}
 use Rattle.std.proofs.lemmas.List.{length-map, take_at}
 use Rattle.std.proofs.ByRecursion.{all-has, All-weaker}
@@ -52,7 +52,7 @@ abbrev arc_target : ℕ → ℕ → List Arc → Option ℕ
 arc_target i l [] = None
 arc_target i l (a ∷ as') = cond (is_arc i l a) (Some a.target) (arc_target i l as')
 
-arc_none : (i l : ℕ) (arcs : List Arc) → All (λ (a : Arc). i < a.source) arcs → arc_target i l arcs ≡ None
+arc_none : (i l : ℕ) (arcs : List Arc) → AllByRecursion (λ (a : Arc). i < a.source) arcs → arc_target i l arcs ≡ None
 arc_none i l [] h = refl
 arc_none i l (a ∷ as') h =
     let up = h.0 in
@@ -61,7 +61,7 @@ arc_none i l (a ∷ as') h =
 arc_here : (i l t : ℕ) (a : Arc) → a.source ≡ i → a.label ≡ l → a.target ≡ t → a ≡ arc i l t
 arc_here i l t a e f g = ap (λ (x : ℕ). arc x a.label a.target) e ∙ ap (λ (x : ℕ). arc i x a.target) f ∙ ap (λ (x : ℕ). arc i l x) g
 
-arc_has : (i l t : ℕ) (arcs : List Arc) → arc_target i l arcs ≡ Some t → Has arcs (arc i l t)
+arc_has : (i l t : ℕ) (arcs : List Arc) → arc_target i l arcs ≡ Some t → ContainsAt arcs (arc i l t)
 arc_has i l t [] h = let z : ◌≡◌ {A = ℕ} 0 1 = cc in absurd (omega arith)
 arc_has i l t (a ∷ as') h =
     ⊎_elim
@@ -87,7 +87,7 @@ reaches_before i low l a h g =
     ⊎_elim (λ (y : l.source < a.source). inl (omega (arith, e, y))) (λ (y : (l.source ≡ a.source) × (l.label + 1 ≤ a.label)). let u = y.0 in let v = y.1 in inr (e ∙ u, omega (arith, f, v))) g)
     h
 
-from_reaches : (size i low : ℕ) (arcs : List Arc) → From size i low arcs → All (Reaches i low) arcs
+from_reaches : (size i low : ℕ) (arcs : List Arc) → From size i low arcs → AllByRecursion (Reaches i low) arcs
 from_reaches size i low [] f = tt
 from_reaches size i low (a ∷ as') f =
     (f.0, All-weaker (Reaches a.source (a.label + 1)) (Reaches i low) (λ x h. reaches_before i low a x f.0 h) as' (from_reaches size a.source (a.label + 1) as' f.2))
@@ -100,13 +100,13 @@ later_other a i l t h =
     (λ (x : (a.source ≡ i) × (a.label + 1 ≤ l)). let y = x.1 in and_right (eqb a.source i) (eqb a.label l) (ne_eqb a.label l (λ e. omega (arith, y, e))))
     h
 
-has_arc : (size j low i l t : ℕ) (arcs : List Arc) → From size j low arcs → Has arcs (arc i l t) → arc_target i l arcs ≡ Some t
+has_arc : (size j low i l t : ℕ) (arcs : List Arc) → From size j low arcs → ContainsAt arcs (arc i l t) → arc_target i l arcs ≡ Some t
 has_arc size j low i l t [] f h = let k = h.1 in absurd (omega (arith, k))
 has_arc size j low i l t (a ∷ as') f (zero, k, e) =
     let same : a ≡ arc i l t = e a in
     ap (λ (x : Arc). cond (is_arc i l x) (Some x.target) (arc_target i l as')) same ∙ cond-true _ _ _ (and_from (eqb i i) (eqb l l) (eq-eqb i i refl) (eq-eqb l l refl))
 has_arc size j low i l t (a ∷ as') f (suc k, h, e) =
-    let there : Has as' (arc i l t) = (k, omega (arith, h), e) in
+    let there : ContainsAt as' (arc i l t) = (k, omega (arith, h), e) in
     let up = all-has (Reaches a.source (a.label + 1)) as' (arc i l t) (from_reaches size a.source (a.label + 1) as' f.2) there in
     cond-false _ _ _ (later_other a i l t up) ∙ has_arc size a.source (a.label + 1) i l t as' f.2 there
 
@@ -118,11 +118,11 @@ own_cons i a arcs = sum_by-cons (λ (x : Arc). cond (eqb x.source i) 1 0) a arcs
 lower_cons : (i : ℕ) (a : Arc) (arcs : List Arc) → lower i (a ∷ arcs) ≡ cond (ltb a.source i) 1 0 + lower i arcs
 lower_cons i a arcs = sum_by-cons (λ (x : Arc). cond (ltb x.source i) 1 0) a arcs
 
-none_lower : (i : ℕ) (arcs : List Arc) → All (λ (a : Arc). i ≤ a.source) arcs → lower i arcs ≡ 0
+none_lower : (i : ℕ) (arcs : List Arc) → AllByRecursion (λ (a : Arc). i ≤ a.source) arcs → lower i arcs ≡ 0
 none_lower i [] h = refl
 none_lower i (a ∷ as') h = lower_cons i a as' ∙ ap (λ b. cond b 1 0 + lower i as') (le-ltb a.source i h.0) ∙ omega (arith, none_lower i as' h.1)
 
-none_own : (i : ℕ) (arcs : List Arc) → All (λ (a : Arc). i < a.source) arcs → own i arcs ≡ 0
+none_own : (i : ℕ) (arcs : List Arc) → AllByRecursion (λ (a : Arc). i < a.source) arcs → own i arcs ≡ 0
 none_own i [] h = refl
 none_own i (a ∷ as') h = let up = h.0 in own_cons i a as' ∙ ap (λ b. cond b 1 0 + own i as') (ne_eqb a.source i (λ e. omega (arith, up, e))) ∙ omega (arith, none_own i as' h.1)
 
@@ -145,13 +145,13 @@ abbrev Found : ℕ → ℕ → List Arc → Type 0
 Found i l arcs = target_of l (take (own i arcs) (drop (lower i arcs) (map move_of arcs))) ≡ arc_target i l arcs
 
 -- one move more, of the source i, of a lower one, or of a higher one
-module _ (i l : ℕ) (a : Arc) (as' : List Arc) (above : All (λ (x : Arc). a.source ≤ x.source) as') where
+module _ (i l : ℕ) (a : Arc) (as' : List Arc) (above : AllByRecursion (λ (x : Arc). a.source ≤ x.source) as') where
   abbrev got : ℕ → ℕ → Option ℕ
   got k n = target_of l (take k (drop n (move_of a ∷ map move_of as')))
 
   target_own : Found i l as' → a.source ≡ i → Found i l (a ∷ as')
   target_own ih e =
-      let up : All (λ (x : Arc). i ≤ x.source) as' = subst (λ k. All (λ (x : Arc). k ≤ x.source) as') e above in
+      let up : AllByRecursion (λ (x : Arc). i ≤ x.source) as' = subst (λ k. AllByRecursion (λ (x : Arc). k ≤ x.source) as') e above in
       let low : lower i (a ∷ as') ≡ 0 = none_lower i (a ∷ as') (omega (arith, e), up) in
       let more : own i (a ∷ as') ≡ suc (own i as') = own_cons i a as' ∙ ap (λ b. cond b 1 0 + own i as') (eq-eqb a.source i e) ∙ omega arith in
       let rest : target_of l (take (own i as') (map move_of as')) ≡ arc_target i l as' = ap (λ n. target_of l (take (own i as') (drop n (map move_of as')))) (sym (none_lower i as' up)) ∙ ih in
@@ -167,7 +167,7 @@ module _ (i l : ℕ) (a : Arc) (as' : List Arc) (above : All (λ (x : Arc). a.so
 
   target_higher : i < a.source → Found i l (a ∷ as')
   target_higher lt =
-      let up : All (λ (x : Arc). i < x.source) (a ∷ as') = (lt, All-weaker (λ (x : Arc). a.source ≤ x.source) (λ (x : Arc). i < x.source) (λ x h. omega (arith, h, lt)) as' above) in
+      let up : AllByRecursion (λ (x : Arc). i < x.source) (a ∷ as') = (lt, All-weaker (λ (x : Arc). a.source ≤ x.source) (λ (x : Arc). i < x.source) (λ x h. omega (arith, h, lt)) as' above) in
       ap (λ k. got k (lower i (a ∷ as'))) (none_own i (a ∷ as') up) ∙ sym (arc_none i l (a ∷ as') up)
 
 own_targets : (size i l j low : ℕ) (arcs : List Arc) → From size j low arcs → Found i l arcs

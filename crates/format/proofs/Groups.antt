@@ -1,7 +1,7 @@
 -- Moves in order are the moves of one source, and those of higher sources behind them.
 
 use Rattle.std.proofs.Common.{◌≡◌, ℕ, ◌+◌, ◌<◌, ◌≤◌, Bool, true, false, cond, ◌&&◌, eqb, ltb, leb, ◌⊎◌, List, [], ◌∷◌, ◌++◌, map, length, Some, None, count_by, sym, refl, ap, ◌∙◌, subst, inl, inr, ⊎_elim, arith}
-use Rattle.std.specs.List.{AllByRecursion as All}
+use Rattle.std.specs.List.{AllByRecursion}
 use Rattle.std.proofs.lemmas.List.Sums.{sum_by-cons, sum_by-append}
 use Rattle.std.proofs.lemmas.List.{length-map}
 use Rattle.std.proofs.ByRecursion.{All-append, All-weaker}
@@ -17,7 +17,7 @@ abbrev pub From : ℕ → ℕ → ℕ → List Arc → Type 0
 From size i low [] = Unit {0}
 From size i low (a ∷ as') = ((i < a.source) ⊎ ((i ≡ a.source) × (low ≤ a.label))) × ArcFits size a × From size a.source (a.label + 1) as'
 
-pub from_fits : (size i low : ℕ) (arcs : List Arc) → From size i low arcs → All (ArcFits size) arcs
+pub from_fits : (size i low : ℕ) (arcs : List Arc) → From size i low arcs → AllByRecursion (ArcFits size) arcs
 from_fits size i low [] f = tt
 from_fits size i low (a ∷ as') f = (f.1, from_fits size a.source (a.label + 1) as' f.2)
 
@@ -48,14 +48,14 @@ pub from_rising : (size i low : ℕ) (arcs : List Arc) → From size i low arcs 
 from_rising size i low [] f = tt
 from_rising size i low (a ∷ as') f = (refl, rising_after size a as' f.2)
 
-after_rising : (size : ℕ) (l : Arc) (arcs : List Arc) → All (ArcFits size) arcs → Rising (Some l) arcs → From size l.source (l.label + 1) arcs
+after_rising : (size : ℕ) (l : Arc) (arcs : List Arc) → AllByRecursion (ArcFits size) arcs → Rising (Some l) arcs → From size l.source (l.label + 1) arcs
 after_rising size l [] f r = tt
 after_rising size l (a ∷ as') f r = (from_above l a r.0, f.0, after_rising size a as' f.1 r.1)
 
 at_zero : (a : Arc) → (0 < a.source) ⊎ ((0 ≡ a.source) × (0 ≤ a.label))
 at_zero a = ⊎_elim (λ (e : a.source ≡ 0). inr (sym e, omega arith)) (λ ne. inl (omega (arith, ne))) (cases_eq a.source 0)
 
-pub rising_from : (size : ℕ) (arcs : List Arc) → All (ArcFits size) arcs → Rising None arcs → From size 0 0 arcs
+pub rising_from : (size : ℕ) (arcs : List Arc) → AllByRecursion (ArcFits size) arcs → Rising None arcs → From size 0 0 arcs
 rising_from size [] f r = tt
 rising_from size (a ∷ as') f r = (at_zero a, f.0, after_rising size a as' f.1 r.1)
 
@@ -69,7 +69,7 @@ from_lower size i low (a ∷ as') f = (from_less i low a f.0, f.1, f.2)
 low_source : (i low : ℕ) (a : Arc) → (i < a.source) ⊎ ((i ≡ a.source) × (low ≤ a.label)) → i ≤ a.source
 low_source i low a h = ⊎_elim (λ (t : i < a.source). omega (arith, t)) (λ (t : (i ≡ a.source) × (low ≤ a.label)). let e = t.0 in omega (arith, e)) h
 
-pub from_sources : (size i low : ℕ) (arcs : List Arc) → From size i low arcs → All (λ (a : Arc). i ≤ a.source) arcs
+pub from_sources : (size i low : ℕ) (arcs : List Arc) → From size i low arcs → AllByRecursion (λ (a : Arc). i ≤ a.source) arcs
 from_sources size i low [] f = tt
 from_sources size i low (a ∷ as') f =
     let l = low_source i low a f.0 in
@@ -120,19 +120,19 @@ front size i low (a ∷ as') f =
 
 -- counting
 
-count_none : (p : Arc → Bool) (xs : List Arc) → All (λ x. p x ≡ false) xs → count_by p xs ≡ 0
+count_none : (p : Arc → Bool) (xs : List Arc) → AllByRecursion (λ x. p x ≡ false) xs → count_by p xs ≡ 0
 count_none p [] h = refl
 count_none p (x ∷ xs) h = sum_by-cons (λ x. cond (p x) 1 0) x xs ∙ ap (λ b. cond b 1 0 + count_by p xs) h.0 ∙ omega (arith, count_none p xs h.1)
 
-count_all : (p : Arc → Bool) (xs : List Arc) → All (λ x. p x ≡ true) xs → count_by p xs ≡ length xs
+count_all : (p : Arc → Bool) (xs : List Arc) → AllByRecursion (λ x. p x ≡ true) xs → count_by p xs ≡ length xs
 count_all p [] h = refl
 count_all p (x ∷ xs) h = sum_by-cons (λ x. cond (p x) 1 0) x xs ∙ ap (λ b. cond b 1 0 + count_by p xs) h.0 ∙ omega (arith, count_all p xs h.1)
 
-all_from : (i : ℕ) (ms : List Move) → All (λ (a : Arc). a.source ≡ i) (map (arc_of i) ms)
+all_from : (i : ℕ) (ms : List Move) → AllByRecursion (λ (a : Arc). a.source ≡ i) (map (arc_of i) ms)
 all_from i [] = tt
 all_from i (m ∷ ms) = (refl, all_from i ms)
 
-module _ (i : ℕ) (done : List Arc) (ms : List Move) (rest : List Arc) (d : All (λ (a : Arc). a.source < i) done) (r : All (λ (a : Arc). i < a.source) rest) where
+module _ (i : ℕ) (done : List Arc) (ms : List Move) (rest : List Arc) (d : AllByRecursion (λ (a : Arc). a.source < i) done) (r : AllByRecursion (λ (a : Arc). i < a.source) rest) where
   mid : List Arc
   mid = map (arc_of i) ms
 
@@ -158,7 +158,7 @@ module _ (i : ℕ) (done : List Arc) (ms : List Move) (rest : List Arc) (d : All
       let y = sum_by-append (λ a. cond (p a) 1 0) s rest in
       omega (arith, a, b, c, x, y)
 
-  pub done_more : All (λ (a : Arc). a.source < i + 1) (done ++ map (arc_of i) ms)
+  pub done_more : AllByRecursion (λ (a : Arc). a.source < i + 1) (done ++ map (arc_of i) ms)
   done_more =
       let s = map (arc_of i) ms in
       All-append (λ (a : Arc). a.source < i + 1) done s

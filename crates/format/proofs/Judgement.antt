@@ -1,7 +1,7 @@
 -- The writer takes the tables that a reading gives, and names the first row that no reading gives.
 
 use Rattle.std.proofs.Common.{◌≡◌, ℕ, ◌+◌, ◌≤◌, Bool, true, false, cond, ◌&&◌, leb, List, [], ◌∷◌, ◌++◌, map, length, take, drop, replicate, IfOk, Some, None, Ok, Err, Option, Result, sym, refl, ap, ◌∙◌, subst, inl, inr, ⊎_elim, append_assoc, arith, length-append}
-use Rattle.std.specs.List.{AllByRecursion as All}
+use Rattle.std.specs.List.{AllByRecursion}
 use Rattle.std.proofs.lemmas.List.{append-nil, length-map, length_push, length-replicate, length-take-le, map-append, take_at, take-map}
 use Rattle.std.proofs.lemmas.Bool.{and_cases, and_parts, both_ways, leb-false, leb-true}
 use Rattle.sheet.specs.declared.Row.{Row}
@@ -24,7 +24,7 @@ relocated_front at [] more = refl
 relocated_front at (r ∷ rs) more =
     ap (λ x. record { flags = r.flags; place = at + 4; len = r.len; first = r.first; count = r.count } ∷ x) (relocated_front (at + 4 + r.len) rs more)
 
-relocated_moves : (at : ℕ) (ms : List Move) (rows : List Row) → All (MovesInside ms) (relocated at rows) → All (MovesInside ms) rows
+relocated_moves : (at : ℕ) (ms : List Move) (rows : List Row) → AllByRecursion (MovesInside ms) (relocated at rows) → AllByRecursion (MovesInside ms) rows
 relocated_moves at ms [] a = tt
 relocated_moves at ms (r ∷ rs) a = (a.0, relocated_moves (at + 4 + r.len) ms rs a.1)
 
@@ -134,7 +134,7 @@ sound_given names ms rows s g =
     let c = chain_of size bs ns (rows_of s) 0 0 (ap (λ x. first_unsound 0 0 x bs ns (rows_of s)) (sym n) ∙ f.1) in
     let d = subst (λ (x : List Row). Chain size bs ns 0 x) g.rows_read c.0 in
     let e : map (state_in bs) (relocated 5 rows) ≡ map (state_in names) rows = ap (map (state_in bs)) (sym g.rows_read) ∙ ap (λ (x : Sheet). x.states) f.0 ∙ g.names_read in
-    let i = subst (λ (x : List Move). All (MovesInside x) rows) g.moves_read (relocated_moves 5 ns rows (chain_moves size bs ns (relocated 5 rows) 0 d)) in
+    let i = subst (λ (x : List Move). AllByRecursion (MovesInside x) rows) g.moves_read (relocated_moves 5 ns rows (chain_moves size bs ns (relocated 5 rows) 0 d)) in
     let last : behind 0 rows ≡ length ms = sym (behind_relocated 5 0 rows) ∙ ap (behind 0) (sym g.rows_read) ∙ c.1 ∙ ap length g.moves_read in
     chain_none size names ms rows 0 0 (chain_elsewhere size names bs ms ns rows 0 5 d e (ap (λ x. map (moves_in x) rows) g.moves_read) g.names_inside i) last
 

@@ -1,7 +1,7 @@
 -- A sheet and its tables stand for one another.
 
 use Rattle.std.proofs.Common.{◌≡◌, ℕ, suc, ◌+◌, ◌-◌, ◌<◌, ◌≤◌, Bool, true, false, cond, eqb, leb, List, [], ◌∷◌, ◌++◌, map, length, take, drop, Some, None, Option, sym, refl, ap, ◌∙◌, subst, append_assoc, arith, length-append, length-drop}
-use Rattle.std.specs.List.{flat_map, AllByRecursion as All}
+use Rattle.std.specs.List.{flat_map, AllByRecursion}
 use Rattle.std.proofs.lemmas.List.{length-map, map-append, take_at, drop_at, drop-drop, drop_all, length-take-le, take-append-drop}
 use Rattle.std.proofs.ByRecursion.{All-weaker}
 use Rattle.std.proofs.lemmas.Bool.{eq-eqb, le-leb, leb-true, eqb-true, and_parts, and_from, cond-true}
@@ -21,7 +21,7 @@ nothing : (size i low : ℕ) (arcs : List Arc) → size ≡ i + 0 → From size 
 nothing size i low [] e f = refl
 nothing size i low (a ∷ as') e f = let l = (from_sources size i low (a ∷ as') f).0 in let h = f.1.0 in absurd (omega (arith, l, h, e))
 
-higher : (size i : ℕ) (arcs : List Arc) → From size (i + 1) 0 arcs → All (λ (a : Arc). i < a.source) arcs
+higher : (size i : ℕ) (arcs : List Arc) → From size (i + 1) 0 arcs → AllByRecursion (λ (a : Arc). i < a.source) arcs
 higher size i arcs f = All-weaker (λ (a : Arc). i + 1 ≤ a.source) (λ (a : Arc). i < a.source) (λ x h. omega (arith, h)) arcs (from_sources size (i + 1) 0 arcs f)
 
 pub passes : (size : ℕ) (names : List ℕ) (ms : List Move) (first : ℕ) (r : Row) → are_flags r.flags ≡ true → r.len ≤ 16 → r.place + r.len ≤ length names → all_printable (name_in names r) ≡ true → r.first ≡ first → first + r.count ≤ length ms → moves_sound size 0 (take r.count (drop first ms)) ≡ true → row_sound size names ms first r ≡ true
@@ -38,7 +38,7 @@ module _ (bs : List ℕ) (size : ℕ) (all : List Arc) where
   Laid i first rows left ss =
       (arcs_of i rows (map move_of left) ≡ left) × (map (state_in bs) rows ≡ ss) × (first_unsound i first size bs (map move_of all) rows ≡ None)
 
-  laid : (ss : List State) (i at : ℕ) (done left : List Arc) (rest : List ℕ) → all ≡ done ++ left → All (λ (a : Arc). a.source < i) done → From size i 0 left → size ≡ i + length ss → All StateFits ss → drop at bs ≡ flat_map state_bytes ss ++ rest → Laid i (length done) (counted i all (placed at ss)) left ss
+  laid : (ss : List State) (i at : ℕ) (done left : List Arc) (rest : List ℕ) → all ≡ done ++ left → AllByRecursion (λ (a : Arc). a.source < i) done → From size i 0 left → size ≡ i + length ss → AllByRecursion StateFits ss → drop at bs ≡ flat_map state_bytes ss ++ rest → Laid i (length done) (counted i all (placed at ss)) left ss
   laid [] i at done left rest e d f n s h =
       let z = nothing size i 0 left n f in
       let l : length done ≡ length (map move_of all) = omega (arith, length-map all move_of, ap length e, length-append done left, ap length z) in
@@ -144,8 +144,8 @@ module _ (size : ℕ) (names : List ℕ) (ms : List Move) where
   Told i first at rows =
       From size i 0 (arcs_of i rows (drop first ms))
       × (map move_of (arcs_of i rows (drop first ms)) ≡ drop first ms)
-      × All StateFits (map (state_in names) rows)
-      × ((all done : List Arc) → all ≡ done ++ arcs_of i rows (drop first ms) → All (λ (a : Arc). a.source < i) done → length done ≡ first
+      × AllByRecursion StateFits (map (state_in names) rows)
+      × ((all done : List Arc) → all ≡ done ++ arcs_of i rows (drop first ms) → AllByRecursion (λ (a : Arc). a.source < i) done → length done ≡ first
       → counted i all (placed at (map (state_in names) rows)) ≡ relocated at rows)
 
   told : (rows : List Row) (i first at : ℕ) → first_unsound i first size names ms rows ≡ None → size ≡ i + length rows → Told i first at rows
@@ -188,7 +188,7 @@ tables_back names rows ms low high h =
     let z : size ≡ 0 + size = omega arith in
     let t = told size names ms rows 0 0 5 h z in
     let n : length (map (state_in names) rows) ≡ size = length-map rows (state_in names) in (
-      (omega (arith, n), omega (arith, n), t.2, subst (λ k. All (ArcFits k) (arcs_of 0 rows ms)) (sym n) (from_fits size 0 0 (arcs_of 0 rows ms) t.0), from_rising size 0 0 (arcs_of 0 rows ms) t.0),
+      (omega (arith, n), omega (arith, n), t.2, subst (λ k. AllByRecursion (ArcFits k) (arcs_of 0 rows ms)) (sym n) (from_fits size 0 0 (arcs_of 0 rows ms) t.0), from_rising size 0 0 (arcs_of 0 rows ms) t.0),
       t.3 (arcs_of 0 rows ms) [] refl tt refl,
       t.1,
     )

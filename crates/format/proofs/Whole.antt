@@ -1,7 +1,7 @@
 -- A whole sheet stands in the bytes exactly if it is read.
 
 use Rattle.std.proofs.Common.{◌≡◌, ℕ, zero, suc, ◌+◌, ◌-◌, ◌*◌, ◌<◌, ◌≤◌, true, cond, ◌&&◌, eqb, ltb, leb, ◌⊎◌, List, [], ◌∷◌, ◌++◌, length, drop, Some, None, Ok, Err, Option, Result, sym, refl, ap, ◌∙◌, subst, inl, inr, ⊎_elim, append_assoc, arith, length-append, length-drop}
-use Rattle.std.specs.List.{flat_map, AllByRecursion as All}
+use Rattle.std.specs.List.{flat_map, AllByRecursion}
 use Rattle.std.proofs.lemmas.List.{drop_all, append-nil}
 use Rattle.std.proofs.lemmas.Bool.{le-leb, ltb-true, leb-true, eqb-true, eq-eqb, cond-true, and_parts, or_cases}
 use Rattle.records.specs.declared.RecordFault.{RecordFault}
@@ -30,7 +30,7 @@ prepend_inv xs (Err e) ys nx h = let z : ◌≡◌ {A = ℕ} 0 1 = cc in absurd 
 
 -- states
 
-pub states_there : (bs rest : List ℕ) (ss : List State) (at n : ℕ) → All StateFits ss → drop at bs ≡ flat_map state_bytes ss ++ rest → states_from (length ss) bs at n ≡ Ok (placed at ss, at + length (flat_map state_bytes ss))
+pub states_there : (bs rest : List ℕ) (ss : List State) (at n : ℕ) → AllByRecursion StateFits ss → drop at bs ≡ flat_map state_bytes ss ++ rest → states_from (length ss) bs at n ≡ Ok (placed at ss, at + length (flat_map state_bytes ss))
 states_there bs rest [] at n f h = let z : at ≡ at + 0 = omega arith in ap (λ k. Ok ([], k)) z
 states_there bs rest (s ∷ ss) at n f h =
     let w = state_bytes s in
@@ -47,7 +47,7 @@ states_there bs rest (s ∷ ss) at n f h =
     ∙ ap (λ i. Ok (row ∷ placed nx ss, i)) far
 
 abbrev pub StatesHere : List ℕ → ℕ → ℕ → List Row → ℕ → Type 0
-StatesHere bs k at rows nx = (ss : List State) × (length ss ≡ k) × (rows ≡ placed at ss) × All StateFits ss × (drop at bs ≡ flat_map state_bytes ss ++ drop nx bs)
+StatesHere bs k at rows nx = (ss : List State) × (length ss ≡ k) × (rows ≡ placed at ss) × AllByRecursion StateFits ss × (drop at bs ≡ flat_map state_bytes ss ++ drop nx bs)
 
 pub states_here : (bs : List ℕ) (k at n : ℕ) (rows : List Row) (nx : ℕ) → states_from k bs at n ≡ Ok (rows, nx) → StatesHere bs k at rows nx
 states_here bs zero at n rows nx h =
@@ -89,7 +89,7 @@ above_key size l a b h =
     omega (arith, u, v))
     (or_cases (ltb l.source a.source) _ h)
 
-few_above : (size : ℕ) (l : Arc) (arcs : List Arc) → ArcFits size l → All (ArcFits size) arcs → Rising (Some l) arcs → key l + 1 + length arcs ≤ size * 64
+few_above : (size : ℕ) (l : Arc) (arcs : List Arc) → ArcFits size l → AllByRecursion (ArcFits size) arcs → Rising (Some l) arcs → key l + 1 + length arcs ≤ size * 64
 unfolding key
 few_above size l [] fl f r = omega (arith, fl)
 few_above size l (a ∷ as') fl f r =
@@ -97,7 +97,7 @@ few_above size l (a ∷ as') fl f r =
     let k = above_key size l a fl.1 r.0 in
     omega (arith, i, k)
 
-pub few : (size : ℕ) (arcs : List Arc) → All (ArcFits size) arcs → Rising None arcs → length arcs ≤ size * 64
+pub few : (size : ℕ) (arcs : List Arc) → AllByRecursion (ArcFits size) arcs → Rising None arcs → length arcs ≤ size * 64
 unfolding key
 few size [] f r = omega arith
 few size (a ∷ as') f r = let i = few_above size a as' f.0 f.1 r.1 in omega (arith, i)
@@ -117,7 +117,7 @@ module _ (size : ℕ) (bs : List ℕ) (low : 1 ≤ size) (high : size ≤ 4096) 
       ∙ cond-true (eqb k k) _ _ (eq-eqb k k refl)
       ∙ cond-true (eqb (at + 6) (length bs)) _ _ (eq-eqb (at + 6) (length bs) (omega arith))
 
-  pub moves_there : (room : ℕ) (last : Option Arc) (at k : ℕ) (arcs : List Arc) → length arcs ≤ room → All (ArcFits size) arcs → Rising last arcs → k + length arcs < 4294967296 → drop at bs ≡ flat_map move_bytes arcs ++ end_bytes (k + length arcs) → (nx : ℕ) × (moves_from room size last bs at k ≡ Ok (arcs, nx))
+  pub moves_there : (room : ℕ) (last : Option Arc) (at k : ℕ) (arcs : List Arc) → length arcs ≤ room → AllByRecursion (ArcFits size) arcs → Rising last arcs → k + length arcs < 4294967296 → drop at bs ≡ flat_map move_bytes arcs ++ end_bytes (k + length arcs) → (nx : ℕ) × (moves_from room size last bs at k ≡ Ok (arcs, nx))
   moves_there zero last at k [] r f s l h =
       let z : k + 0 ≡ k = omega arith in
       (at, next_ok (λ t. onward at t (λ _ _. Err (Room (size + 1 + k) at))) (tail_end last at k (omega arith) (h ∙ ap end_bytes z)))
@@ -163,13 +163,13 @@ module _ (size : ℕ) (bs : List ℕ) (low : 1 ≤ size) (high : size ≤ 4096) 
       (tail_here bs at n size q low (sheet_inv (record_at (expects.Tail size) bs at n) q a.1))
 
   abbrev pub MovesHere : ℕ → Option Arc → ℕ → ℕ → List Arc → Type 0
-  MovesHere room last at k arcs = (length arcs ≤ room) × All (ArcFits size) arcs × Rising last arcs × (drop at bs ≡ flat_map move_bytes arcs ++ end_bytes (k + length arcs))
+  MovesHere room last at k arcs = (length arcs ≤ room) × AllByRecursion (ArcFits size) arcs × Rising last arcs × (drop at bs ≡ flat_map move_bytes arcs ++ end_bytes (k + length arcs))
 
   moves_none : (room : ℕ) (last : Option Arc) (at k : ℕ) (arcs : List Arc) (nx : ℕ) → ◌≡◌ {A = Result (List Arc × ℕ) SheetFault} (Ok ([], at)) (Ok (arcs, nx)) → drop at bs ≡ end_bytes k → MovesHere room last at k arcs
   moves_none room last at k arcs nx h d =
       let e : [] ≡ arcs = ap (λ (t : List Arc × ℕ). t.0) (ok_same _ _ h) in
       let z : k ≡ k + 0 = omega arith in
-      subst (λ (as' : List Arc). (length as' ≤ room) × All (ArcFits size) as' × Rising last as' × (drop at bs ≡ flat_map move_bytes as' ++ end_bytes (k + length as'))) e
+      subst (λ (as' : List Arc). (length as' ≤ room) × AllByRecursion (ArcFits size) as' × Rising last as' × (drop at bs ≡ flat_map move_bytes as' ++ end_bytes (k + length as'))) e
       (omega arith, tt, tt, d ∙ ap end_bytes z)
 
   no_room : (a : Arc) (f : SheetFault) (y : List Arc × ℕ) → ◌≡◌ {A = Result (List Arc × ℕ) SheetFault} (Err f) (Ok y) → ⊥
@@ -192,7 +192,7 @@ module _ (size : ℕ) (bs : List ℕ) (low : 1 ≤ size) (high : size ≤ 4096) 
       let z = prepend_inv (a ∷ []) (moves_from room size (Some a) bs (at + 7) (k + 1)) arcs nx (sym (ap (λ o. onward at o go) m.1) ∙ t.2) in
       let i = moves_here room (Some a) (at + 7) (k + 1) z.0 nx z.1 in
       let c : k + 1 + length z.0 ≡ k + length (a ∷ z.0) = omega arith in
-      subst (λ (as' : List Arc). (length as' ≤ suc room) × All (ArcFits size) as' × Rising last as' × (drop at bs ≡ flat_map move_bytes as' ++ end_bytes (k + length as'))) (sym z.2) (
+      subst (λ (as' : List Arc). (length as' ≤ suc room) × AllByRecursion (ArcFits size) as' × Rising last as' × (drop at bs ≡ flat_map move_bytes as' ++ end_bytes (k + length as'))) (sym z.2) (
         (let l = i.0 in omega (arith, l)),
         (m.2, i.1),
         (m.3, i.2),
@@ -250,7 +250,7 @@ read_encoded n m bs rows arcs h =
     ∙ sym (hd.4 ∙ ap (λ x. head_bytes size ++ x) (ss.4 ∙ ap (λ x. flat_map state_bytes ss.0 ++ x) (ms.3 ∙ ap (λ k. flat_map move_bytes y.0.0 ++ end_bytes k) z))) in (
       record { states = ss.0; moves = y.0.0 },
       (
-        ((let l = hd.2 in omega (arith, l, n1)), (let l = hd.3 in omega (arith, l, n1)), ss.3, subst (λ k. All (ArcFits k) y.0.0) (sym n1) ms.1, ms.2),
+        ((let l = hd.2 in omega (arith, l, n1)), (let l = hd.3 in omega (arith, l, n1)), ss.3, subst (λ k. AllByRecursion (ArcFits k) y.0.0) (sym n1) ms.1, ms.2),
         whole,
         omega (arith, n1, room),
         ms.0,

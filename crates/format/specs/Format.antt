@@ -1,7 +1,7 @@
 -- Sheets as values, and the one encoding of each as bytes.
 
 use Rattle.std.specs.Prelude.{◌≡◌, ℕ, ◌/◌, ◌%◌, ◌<◌, ◌≤◌, Bool, true, ◌&&◌, ◌||◌, List, [], ◌∷◌, ◌++◌, length, Some, None, codes, Option, ◌==◌, nat_lt}
-use Rattle.std.specs.List.{flat_map, AllByRecursion as All}
+use Rattle.std.specs.List.{flat_map, AllByRecursion}
 use Rattle.records.specs.Fields.{are_flags, all_printable}
 use Rattle.format.specs.declared.Arc.{Arc}
 
@@ -66,5 +66,5 @@ Rising last (a ∷ as') = (above_last last a ≡ true) × Rising (Some a) as'
 -- a sheet that the format can hold
 abbrev pub Fits : Sheet → Type 0
 Fits s =
-    (1 ≤ length s.states) × (length s.states ≤ 4096) × All StateFits s.states
-    × All (ArcFits (length s.states)) s.moves × Rising None s.moves
+    (1 ≤ length s.states) × (length s.states ≤ 4096) × AllByRecursion StateFits s.states
+    × AllByRecursion (ArcFits (length s.states)) s.moves × Rising None s.moves

@@ -1,6 +1,6 @@
 -- The game that a sheet stands for.
 use Rattle.std.specs.Prelude.{◌≡◌, ℕ, Bool, ◌&&◌, List, [], length, take, IfOk, Some, Result, ◌==◌, bit_and, nat_lt, slice_index_or}
-use Rattle.std.specs.List.{ContainsAt as Has}
+use Rattle.std.specs.List.{ContainsAt}
 use Rattle.game.specs.Meaning.{Meaning}
 use Rattle.sheet.specs.declared.Row.{Row}
 use Rattle.sheet.specs.declared.Move.{Move}
@@ -32,8 +32,8 @@ pub record GameOf (s : Sheet) (m : Meaning) : Type 0 where
   pub end : (i : ℕ) → m.end i ≡ flagged s 4 i
   pub goal : (i : ℕ) → m.goal i ≡ flagged s 8 i
   -- label l leads from i to t exactly if the sheet has that move
-  pub moves : (i l t : ℕ) → Has s.moves (arc i l t) → m.next i l ≡ Some t
-  pub no_others : (i l t : ℕ) → m.next i l ≡ Some t → Has s.moves (arc i l t)
+  pub moves : (i l t : ℕ) → ContainsAt s.moves (arc i l t) → m.next i l ≡ Some t
+  pub no_others : (i l t : ℕ) → m.next i l ≡ Some t → ContainsAt s.moves (arc i l t)
 
 -- the game over the tables, of n rows and m moves, that a reading fills is that of the sheet that the bytes encode
 abbrev pub ReadsGame : ℕ → ℕ → List ℕ → Result Counts SheetFault × List Row × List Move → Type 0

@@ -1,7 +1,7 @@
 -- Which tables the writer takes, in terms of readings: those that a reading gives, wherever the names lie.
 
 use Rattle.std.specs.Prelude.{◌≡◌, ℕ, ◌+◌, ◌<◌, ◌≤◌, ◌⊎◌, List, map, length, take, Ok, Err, sum_by, Result}
-use Rattle.std.specs.List.{AllByRecursion as All}
+use Rattle.std.specs.List.{AllByRecursion}
 use Rattle.sheet.specs.declared.Row.{Row}
 use Rattle.sheet.specs.declared.Move.{Move}
 use Rattle.format.specs.declared.WriteFault.{WriteFault}
@@ -25,8 +25,8 @@ pub record Begins (size : ℕ) (names : List ℕ) (ms : List Move) (rows : List 
   pub rows_read : take (length rows) (rows_of s) ≡ relocated 5 rows
   pub names_read : take (length rows) s.states ≡ map (state_in names) rows
   pub moves_read : map (moves_in (moves_of s)) rows ≡ map (moves_in ms) rows
-  pub names_inside : All (NameInside names) rows
-  pub moves_inside : All (MovesInside ms) rows
+  pub names_inside : AllByRecursion (NameInside names) rows
+  pub moves_inside : AllByRecursion (MovesInside ms) rows
 
 -- the reading of the sheet `s` gives these rows, names and moves, and no others
 pub record Gives (names : List ℕ) (ms : List Move) (rows : List Row) (s : Sheet) : Type 0 where
@@ -34,7 +34,7 @@ pub record Gives (names : List ℕ) (ms : List Move) (rows : List Row) (s : Shee
   pub rows_read : rows_of s ≡ relocated 5 rows
   pub names_read : s.states ≡ map (state_in names) rows
   pub moves_read : moves_of s ≡ ms
-  pub names_inside : All (NameInside names) rows
+  pub names_inside : AllByRecursion (NameInside names) rows
 
 -- how many moves the rows count together
 abbrev pub counts_of : List Row → ℕ

@@ -1,7 +1,7 @@
 -- The tables that the reader fills are those of the sheet.
 
 use Rattle.std.proofs.Common.{◌≡◌, ℕ, zero, suc, ◌+◌, ◌-◌, ◌<◌, ◌≤◌, Bool, true, false, cond, leb, List, [], ◌∷◌, ◌++◌, map, length, get_or, take, drop, set, replicate, None, Ok, Err, Result, sym, refl, ap, ◌∙◌, subst, append_assoc, arith}
-use Rattle.std.specs.List.{AllByRecursion as All}
+use Rattle.std.specs.List.{AllByRecursion}
 use Rattle.std.proofs.lemmas.List.{set-append_left, get_or_append_left, set_at, take_at, drop_at, drop-replicate, length-replicate, length-set, ext_get_or, length_push}
 use Rattle.std.proofs.lemmas.Bool.{cond-true}
 use Rattle.records.specs.declared.SheetFault.{SheetFault}
@@ -21,14 +21,14 @@ use Rattle.reader.specs.Stored.{Tables, storing, stored, numbered, count_one, mo
 use Rattle.reader.proofs.Counts.{counts, length_storing}
 
 -- rows that no move reaches stay as they are
-front_rows : (k : ℕ) (st zs : List Row) (ms : List Move) (arcs : List Arc) → All (ArcFits (length st)) arcs → (storing k (st ++ zs) ms arcs).1 ≡ (storing k st ms arcs).1 ++ zs
+front_rows : (k : ℕ) (st zs : List Row) (ms : List Move) (arcs : List Arc) → AllByRecursion (ArcFits (length st)) arcs → (storing k (st ++ zs) ms arcs).1 ≡ (storing k st ms arcs).1 ++ zs
 front_rows k st zs ms [] f = refl
 front_rows k st zs ms (a ∷ as') f =
     let s = a.source in
     let lt = f.0.0 in
     let e : count_one (st ++ zs) s ≡ count_one st s ++ zs = ap (λ r. set (st ++ zs) s (more r)) (get_or_append_left st zs zero_row s lt) ∙ set-append_left st zs s (more (get_or st s zero_row)) lt in
     ap (λ rows. (storing (k + 1) rows (set ms k (move_of a)) as').1) e
-    ∙ front_rows (k + 1) (count_one st s) zs (set ms k (move_of a)) as' (subst (λ n. All (ArcFits n) as') (sym (length-set st s (more (get_or st s zero_row)))) f.1)
+    ∙ front_rows (k + 1) (count_one st s) zs (set ms k (move_of a)) as' (subst (λ n. AllByRecursion (ArcFits n) as') (sym (length-set st s (more (get_or st s zero_row)))) f.1)
 
 -- the moves come one after the other
 moves_stored : (rows : List Row) (pre : List Move) (k room : ℕ) (arcs : List Arc) → length pre ≡ k → length arcs ≤ room → ((storing k rows (pre ++ replicate room zero_move) arcs).0 ≡ k + length arcs) × ((storing k rows (pre ++ replicate room zero_move) arcs).2 ≡ pre ++ (map move_of arcs ++ replicate (room - length arcs) zero_move))
@@ -81,7 +81,7 @@ module _ (n m : ℕ) (bs : List ℕ) where
       let s = storing 0 (st ++ drop size (replicate n zero_row)) (replicate m zero_move) arcs in
       (record { states = size; moves = s.0 }, numbered 0 (take size s.1) ++ drop size s.1, s.2)
 
-  whole : (size : ℕ) (st : List Row) (arcs : List Arc) → length st ≡ size → ((i : ℕ) → (get_or st i zero_row).count ≡ 0) → All (ArcFits (length st)) arcs → length arcs ≤ m → ended n m (Ok (left size st arcs)) ≡ filled n m (Ok (st, arcs))
+  whole : (size : ℕ) (st : List Row) (arcs : List Arc) → length st ≡ size → ((i : ℕ) → (get_or st i zero_row).count ≡ 0) → AllByRecursion (ArcFits (length st)) arcs → length arcs ≤ m → ended n m (Ok (left size st arcs)) ≡ filled n m (Ok (st, arcs))
   unfolding left
   whole size st arcs l none f h =
       let zs = drop size (replicate n zero_row) in
@@ -112,7 +112,7 @@ module _ (n m : ℕ) (bs : List ℕ) where
       let l : length s.0 ≡ h.0 = ap length ss.2 ∙ length_placed h.1 ss.0 ∙ ss.1 in
       let l2 : length s.0 ≡ length t.0.states = ap length t.2 ∙ length_placed 5 t.0.states in
       let none : (i : ℕ) → (get_or s.0 i zero_row).count ≡ 0 = λ i. ap (λ x. (get_or x i zero_row).count) t.2 ∙ uncounted 5 t.0.states i in
-      let f : All (ArcFits (length s.0)) a.0 = subst (λ k. All (ArcFits k) a.0) (sym l2) (subst (λ (x : List Arc). All (ArcFits (length t.0.states)) x) (sym t.3) t.1.0.3) in
+      let f : AllByRecursion (ArcFits (length s.0)) a.0 = subst (λ k. AllByRecursion (ArcFits k) a.0) (sym l2) (subst (λ (x : List Arc). AllByRecursion (ArcFits (length t.0.states)) x) (sym t.3) t.1.0.3) in
       let few : length a.0 ≤ m = (let q = t.1.3 in omega (arith, q, ap length t.3)) in
       whole h.0 s.0 a.0 l none f few
 

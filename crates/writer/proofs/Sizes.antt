@@ -1,7 +1,7 @@
 -- Lengths of a sheet's parts, and sound tables row by row.
 
 use Rattle.std.proofs.Common.{◌≡◌, ℕ, ◌+◌, ◌*◌, ◌<◌, ◌≤◌, Bool, true, false, ◌&&◌, ltb, leb, List, [], ◌∷◌, ◌++◌, map, length, get_or, take, drop, Some, None, Ok, Err, Option, sym, refl, ap, ◌∙◌, append_assoc, arith, length-append}
-use Rattle.std.specs.List.{flat_map, AllByRecursion as All}
+use Rattle.std.specs.List.{flat_map, AllByRecursion}
 use Rattle.std.proofs.lemmas.List.{length-map, drop_more, drop-drop}
 use Rattle.std.proofs.lemmas.Bool.{le-leb, lt-leb, cond-true, cond-false}
 use Rattle.sheet.specs.declared.Row.{Row}
@@ -25,7 +25,7 @@ pub arcs_length : (arcs : List Arc) → length (flat_map move_bytes arcs) ≡ 7 
 arcs_length [] = refl
 arcs_length (a ∷ as') = omega (arith, length-append (move_bytes a) (flat_map move_bytes as'), arcs_length as')
 
-pub named : (size i first : ℕ) (names : List ℕ) (ms : List Move) (rows : List Row) → first_unsound i first size names ms rows ≡ None → All (Named names) rows
+pub named : (size i first : ℕ) (names : List ℕ) (ms : List Move) (rows : List Row) → first_unsound i first size names ms rows ≡ None → AllByRecursion (Named names) rows
 named size i first names ms [] h = tt
 named size i first names ms (r ∷ rs) h =
     let p = passed (row_sound size names ms first r) (first_unsound (i + 1) (first + r.count) size names ms rs) i h in
@@ -80,7 +80,7 @@ sound_more size low m ms h = all_four (leb low m.label) (ltb m.label 64) (ltb m.
 pub sound_not : (size low : ℕ) (m : Move) (ms : List Move) → move_sound size low m ≡ false → moves_sound size low (m ∷ ms) ≡ false
 sound_not size low m ms h = not_four (leb low m.label) (ltb m.label 64) (ltb m.target size) (moves_sound size (m.label + 1) ms) h
 
-pub rows_length : (names : List ℕ) (rows : List Row) → All (Named names) rows → length (rows_bytes names rows) ≤ 20 * length rows
+pub rows_length : (names : List ℕ) (rows : List Row) → AllByRecursion (Named names) rows → length (rows_bytes names rows) ≤ 20 * length rows
 rows_length names [] h = omega arith
 rows_length names (r ∷ rs) h =
     let i = rows_length names rs h.1 in

@@ -2,7 +2,7 @@
 #![tactic(auto)]
 
 ghost use Rattle.std.specs.Prelude.{◌≡◌, ◌+◌, ◌≤◌, length, take, drop, IfOk, None};
-ghost use Rattle.std.specs.List.{AllByRecursion as All};
+ghost use Rattle.std.specs.List.{AllByRecursion};
 ghost use Rattle.format.specs.Format.{head_bytes, state_bytes, move_bytes, end_bytes, encode};
 ghost use Rattle.format.specs.Tables.{state_in, arc_of, sheet_in};
 ghost use Rattle.format.specs.Writing.{moves_sound, name_sound, moves_next, row_sound, first_unsound, over, put, write_result};
@@ -78,7 +78,7 @@ fn put_state(row: Row, names: &[u8], out: &mut [u8], at: usize) -> usize
 
 // The records of the states from `start` on, each at the end of the last. Answers where they end.
 fn put_states(rows: &[Row], names: &[u8], out: &mut [u8], start: usize) -> usize
-    requires named { All (Named names.now) rows.now }
+    requires named { AllByRecursion (Named names.now) rows.now }
     requires fits { start + length (rows_bytes names.now rows.now) ≤ length out.old }
     ensures value { result ≡ start + length (rows_bytes names.now rows.now) }
     ensures after { out.new ≡ put start (rows_bytes names.now rows.now) out.old }

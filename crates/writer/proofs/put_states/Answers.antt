@@ -1,5 +1,5 @@
 use Rattle.std.proofs.Common.{◌≡◌, ◌+◌, List, ◌∷◌, length, get_or, drop, sym, ap, ◌∙◌, subst, arith, length-append}
-use Rattle.std.specs.List.{AllByRecursion as All}
+use Rattle.std.specs.List.{AllByRecursion}
 use Rattle.std.proofs.lemmas.List.{drop_more, drop_all}
 use Rattle.sheet.specs.declared.Row.{Row}
 use Rattle.format.specs.Format.{state_bytes}
@@ -17,7 +17,7 @@ put_state-at-requires c =
     let row = get_or c.args.rows.now i zero_row in
     let more = drop (i + 1) c.args.rows.now in
     let e : drop i c.args.rows.now ≡ row ∷ more = drop_more c.args.rows.now i _ (omega arith) in
-    let a : All (Named names) (row ∷ more) = subst (λ (l : List Row). All (Named names) l) e c.loop-row.invariant.0 in
+    let a : AllByRecursion (Named names) (row ∷ more) = subst (λ (l : List Row). AllByRecursion (Named names) l) e c.loop-row.invariant.0 in
     let s : length (rows_bytes names (drop i c.args.rows.now)) ≡ length (state_bytes (state_in names row)) + length (rows_bytes names more) = ap (λ l. length (rows_bytes names l)) e ∙ length-append (state_bytes (state_in names row)) (rows_bytes names more) in
     record { named = a.0; fits = omega (arith, s, c.loop-row.invariant.1, c.requires.fits, c.loop-row.auto.out) }
 
@@ -29,7 +29,7 @@ loop-row-preserved c =
     let more = drop (i + 1) c.args.rows.now in
     let w = state_bytes (state_in names row) in
     let e : drop i c.args.rows.now ≡ row ∷ more = drop_more c.args.rows.now i _ (omega arith) in
-    let a : All (Named names) (row ∷ more) = subst (λ (l : List Row). All (Named names) l) e c.loop-row.invariant.0 in
+    let a : AllByRecursion (Named names) (row ∷ more) = subst (λ (l : List Row). AllByRecursion (Named names) l) e c.loop-row.invariant.0 in
     let s : length (rows_bytes names (drop i c.args.rows.now)) ≡ length w + length (rows_bytes names more) = ap (λ l. length (rows_bytes names l)) e ∙ length-append w (rows_bytes names more) in (
       a.1,
       omega (arith, s, c.loop-row.invariant.1, c.put_state-at.ensures.value),
