@@ -6,16 +6,16 @@ cd "$(dirname "$0")/.."
 times=${1:-10}
 out=target/bench
 mkdir -p $out
-rt check bench > $out/check.log || { tail $out/check.log; exit 1; }
+(cd crates/bench && rt run) > $out/check.log || { tail $out/check.log; exit 1; }
 rustc -O -o $out/plain bench/plain.rs
 
-target/bin/bench > $out/proved.sums
+crates/bench/out/bench > $out/proved.sums
 $out/plain > $out/plain.sums
 cmp $out/proved.sums $out/plain.sums || { echo "the solvers do not agree"; exit 1; }
 
 rm -f $out/times
 for round in $(seq 40); do
-    target/bin/bench "$times" | sed 's/^/proved /' >> $out/times
+    crates/bench/out/bench "$times" | sed 's/^/proved /' >> $out/times
     $out/plain "$times" | sed 's/^/plain /' >> $out/times
 done
 

@@ -12,7 +12,7 @@ ghost use Rattle.reader.specs.Stored.{shown_filled, stored, shown_stored, source
 
 use format::{Arc, Counts};
 use records::{Expect, Record, SheetFault};
-use sheet::{Move, NO_MOVE, NO_ROW, Row};
+use sheet::{Move, NO_ROW, Row};
 
 // Makes every row zero.
 fn clear_rows(rows: &mut [Row])
@@ -187,7 +187,10 @@ fn number_rows(rows: &mut [Row])
 fn clear_moves(moves: &mut [Move])
     ensures { moves.new ≡ replicate (length moves.old) zero_move }
 {
-    moves.fill(NO_MOVE);
+    moves.fill(Move {
+        label: 0,
+        target: 0,
+    });
 }
 
 // Reads a sheet into tables that are zero. After a refusal they hold what was read so far.
