@@ -7,7 +7,7 @@ use Rattle.std.proofs.lemmas.Fmt.{digits_decimal, digits_value-decimal, decimal_
 use Rattle.std.proofs.lemmas.Str.Parse.{IsNumeralModel, numerals_by_fold}
 use Rattle.law.specs.declared.Call.{Call}
 use Rattle.law.specs.declared.Call.TheVariants.{Plan, Open, Reply, Report, Rate, Bar, Lift, Look, Leave}
-use Rattle.console.specs.Calls.{read_on, numeral, clamped, most_state, most_label, or_else, call_of, call_text, Fits, ReadsBack}
+use Rattle.console.specs.Calls.{read_on, numeral, clamped, most_state, most_label, or_else, call_of, call_text, EveryCallHasALine, ReadsBack}
 use Rattle.console.proofs.Numerals.{numeral_of_some}
 
 abbrev value_on : ℕ → List ℕ → ℕ
@@ -40,7 +40,7 @@ state_decimal n le = numeral_decimal most_state n (omega arith) le
 label_decimal : (n : ℕ) → n ≤ most_label → clamped most_label (numeral (decimal n)) ≡ Some n
 label_decimal n le = numeral_decimal most_label n (omega arith) le
 
-read_back : (q : Call) → Fits q → call_of (call_text q) ≡ Some q
+pub read_back : EveryCallHasALine
 read_back Plan h = refl
 read_back (Open s) h = ap (λ (o : Option ℕ). or_else (or_else (option_map Open o) None) None) (state_decimal s h)
 read_back Reply h = refl

@@ -84,5 +84,9 @@ Fits Look = Unit {0}
 Fits Leave = Unit {0}
 
 -- every call that can be made has a line that is read as it
+abbrev pub EveryCallHasALine : Type 0
+EveryCallHasALine = (q : Call) → Fits q → call_of (call_text q) ≡ Some q
+
+-- where the line is the text of a call, that call is read
 abbrev pub ReadsBack : List ℕ → Option Call → Type 0
 ReadsBack line r = (q : Call) → Fits q → line ≡ call_text q → r ≡ Some q

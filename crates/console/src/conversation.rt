@@ -1,6 +1,7 @@
 // A conversation with a new watch: lines in, one line out for each.
 ghost use Rattle.std.specs.Prelude.{◌≡◌, ◌++◌, IfOk, string_bytes, codes, OnOk, ◌==◌};
 ghost use Rattle.console.specs.Answers.{answer_text};
+ghost use Rattle.console.specs.Calls.{EveryCallHasALine};
 ghost use Rattle.console.specs.Conversation.{Answered, Conversation, calls_in, readable, transcript};
 
 use crate::answers::show_answer;
@@ -100,7 +101,8 @@ fn answer_all<G: Game + Drop>(
 
 // Asks a new watch over the game the calls in the input, and tells its answers: a line for each line of the input.
 pub fn converse<G: Game + Drop>(heap: Global, game: G, input: &[u8]) -> Result<String, AllocError>
-    ensures { IfOk result (λ t. Conversation (G.meaning game) input.now (string_bytes t)) }
+    ensures told { IfOk result (λ t. Conversation (G.meaning game) input.now (string_bytes t)) }
+    ensures complete { EveryCallHasALine }
 {
     let lines = read_calls(heap, input)?;
     let calls = readable(heap, lines.as_slice())?;

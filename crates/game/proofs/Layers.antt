@@ -126,5 +126,8 @@ module _ (m : Meaning) (ok : Lawful m) (b : Bars) where
   unfolding rank
   rank_is s r e = first_is (λ j. within m b j s) (suc m.size) r e
 
+  pub unranked : (s : ℕ) → rank m b s ≡ None → (k : ℕ) → within m b k s ≡ true → ⊥
+  unranked s e k h = none_some e (ranked k s h).1
+
   pub rank_within : (s r : ℕ) → rank m b s ≡ Some r → within m b r s ≡ true
   rank_within s r e = (rank_is s r e).passes

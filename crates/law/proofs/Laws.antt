@@ -10,7 +10,7 @@ use Rattle.game.specs.Final.{Final, Unblocked, TakesWitness}
 use Rattle.law.specs.declared.Call.{Call}
 use Rattle.law.specs.declared.Call.TheVariants.{Plan, Open, Reply, Report, Rate, Bar, Lift, Look, Leave}
 use Rattle.law.specs.declared.Answer.{Answer}
-use Rattle.law.specs.declared.Answer.TheVariants.{Planned, Opened, Replied, Reported, Rated}
+use Rattle.law.specs.declared.Answer.TheVariants.{Planned, Opened, Replied, Reported, Rated, Refused}
 use Rattle.law.specs.declared.Fault.{Fault}
 use Rattle.law.specs.declared.Fault.TheVariants.{NoState, NotFeasible, RunOpen, RunOver, OtherTurn, NoPlan, NoRank}
 use Rattle.law.specs.declared.Verdict.{Verdict}
@@ -37,6 +37,9 @@ longer le win = record { short = λ h f. omega (arith, win.short h f); at_goal =
 
 -- Plan
 
+held_not_refused : {n : ℕ} {f : Fault} → Refused f ≡ Planned (Held n) → ⊥
+held_not_refused e = let z : ◌≡◌ {A = ℕ} 0 1 = cc in omega arith
+
 module _ (m : Meaning) (ok : Lawful m) (b : Bars) where
   -- what plan answers where it finds the fault o, or none
   abbrev pub planned : Option Fault → Answer
@@ -53,6 +56,35 @@ module _ (m : Meaning) (ok : Lawful m) (b : Bars) where
   planned_is : (o : Option Fault) (v : Verdict) → planned o ≡ Planned v → (o ≡ None) × (plan_verdict m (rank m b) ≡ v)
   planned_is None v e = (refl, cc)
   planned_is (Some f) v e = let z : ◌≡◌ {A = ℕ} 0 1 = cc in absurd (omega arith)
+
+  verdict_held : (o : Option ℕ) (n k : ℕ) → Planned (verdict o n) ≡ Planned (Held k) → (o ≡ None) × (n ≡ k)
+  verdict_held None n k e = (refl, cc)
+  verdict_held (Some s) n k e = let z : ◌≡◌ {A = ℕ} 0 1 = cc in absurd (omega arith)
+
+  pub record HeldFacts (n : ℕ) : Type 0 where
+    pub ranked_starts : (s : ℕ) → m.start s ≡ true → (r : ℕ) × (rank m b s ≡ Some r) × (r ≤ n)
+    pub reached : (k : ℕ) → ((s r : ℕ) → m.start s ≡ true → rank m b s ≡ Some r → r ≤ k) → n ≤ k
+
+  start_rank_is : (s r : ℕ) → m.start s ≡ true → rank m b s ≡ Some r → start_rank m (rank m b) s ≡ Some r
+  start_rank_is s r st e = cond-true (m.start s) (rank m b s) None st ∙ e
+
+  is_start_rank : (s r : ℕ) → start_rank m (rank m b) s ≡ Some r → (m.start s ≡ true) × (rank m b s ≡ Some r)
+  is_start_rank s r e =
+      ⊎_elim
+      (λ st. (st, sym (cond-true (m.start s) (rank m b s) None st) ∙ e))
+      (λ ns. absurd (none_some (cond-false (m.start s) (rank m b s) None ns) e))
+      (cases_Bool (m.start s))
+
+  pub held_facts : (n : ℕ) → planned None ≡ Planned (Held n) → HeldFacts n
+  held_facts n e =
+      let both = verdict_held (first_below (lost_start m (rank m b)) m.size) (highest (start_rank m (rank m b)) m.size) n e in
+      record {
+        ranked_starts = λ s st. ⊎_elim
+            (λ un. absurd (both_ways _ (first_none (lost_start m (rank m b)) m.size both.0 s (start_inside m ok s st)) (and_from _ _ st (not_from_false _ (ap is_some un)))))
+            (λ has. (has.0, has.1, omega (arith, highest_ge (start_rank m (rank m b)) m.size s has.0 (start_inside m ok s st) (start_rank_is s has.0 st has.1), both.1)))
+            (option_cases (rank m b s));
+        reached = λ k h. omega (arith, highest_le (start_rank m (rank m b)) m.size k (λ s r lt e. let f = is_start_rank s r e in h s r f.0 f.1), both.1);
+      }
 
   pub all_ranked_held : ((s : ℕ) → m.start s ≡ true → is_some (rank m b s) ≡ true) → (n : ℕ) × (planned None ≡ Planned (Held n))
   all_ranked_held h =
@@ -81,20 +113,13 @@ module _ (m : Meaning) (ok : Lawful m) (b : Bars) (sound : Sound m) where
   below_top : (s r : ℕ) → m.start s ≡ true → rank m b s ≡ Some r → r ≤ top
   below_top s r st e = highest_ge (start_rank m (rank m b)) m.size s r (start_inside m ok s st) (cond-true (m.start s) (rank m b s) None st ∙ e)
 
-  is_start_rank : (s r : ℕ) → start_rank m (rank m b) s ≡ Some r → (m.start s ≡ true) × (rank m b s ≡ Some r)
-  is_start_rank s r e =
-      ⊎_elim
-      (λ st. (st, sym (cond-true (m.start s) (rank m b s) None st) ∙ e))
-      (λ ns. absurd (none_some (cond-false (m.start s) (rank m b s) None ns) e))
-      (cases_Bool (m.start s))
-
   held_is : first_below lost m.size ≡ None → HeldIs m b top
   held_is none = record {
     strategy = facts.choices_win.0;
     by_choices = facts.choices_win.1;
     wins = λ s st. let has = ranked s st (first_none lost m.size none s (start_inside m ok s st)) in longer (below_top s has.0 st has.1) (facts.choices_win.2 s has.0 has.1);
     least = λ w k win. highest_le (start_rank m (rank m b)) m.size k (λ s r lt e.
-        let is = is_start_rank s r e in
+        let is = is_start_rank m ok b s r e in
         let got = facts.none_better w k s (win s is.0) in
         omega (arith, same_some is.1 got.1, got.2));
   }
@@ -117,6 +142,10 @@ module _ (m : Meaning) (ok : Lawful m) (b : Bars) (sound : Sound m) where
       go (Some q) e = lost_is q e
 
 module _ (m : Meaning) (ok : Lawful m) (L : Log) where
+  held_fault : (o : Option Fault) (n : ℕ) → planned m ok (barred L) o ≡ Planned (Held n) → o ≡ None
+  held_fault None n e = refl
+  held_fault (Some f) n e = absurd (held_not_refused e)
+
   would_sound : Would m L Plan → first_fault m ≡ None
   unfolding answer
   would_sound e = accepted_plan m ok (barred L) (first_fault m) e
@@ -232,6 +261,13 @@ module _ (m : Meaning) (ok : Lawful m) where
       let four = past replied (not (is_some (rank m b p))) NoRank _ three.2 in
       let got = chosen_is b p (choice m b p) four.2 in
       (got.0, got.1, got.2, ap (answered replied) (one.1 ∙ two.1 ∙ three.1 ∙ four.1) ∙ got.3)
+
+  pub report_to : (p l : ℕ) → accepted (answered Reported (report_answer m (Some p) l)) ≡ true → report_answer m (Some p) l ≡ or_fault NotFeasible (m.next p l)
+  report_to p l e =
+      let one = past Reported (done m p) RunOver _ e in
+      let two = past Reported (not (m.public p)) OtherTurn _ one.2 in
+      let three = past Reported (not (feasible m p l)) NotFeasible _ two.2 in
+      one.1 ∙ two.1 ∙ three.1
 
   pub report_is : (p l : ℕ) → accepted (answered Reported (report_answer m (Some p) l)) ≡ true → (t : ℕ) × (m.public p ≡ true) × Step m p l t
   report_is p l e =

@@ -1,7 +1,11 @@
-use Rattle.std.proofs.Common.{◌≡◌, ℕ, ◌+◌, ◌-◌, ◌≤◌, List, ◌++◌, length, take, drop, sym, ap, ◌∙◌, append_assoc, arith, length-append, length-drop, length-take}
+use Rattle.std.proofs.Common.{◌≡◌, ℕ, ◌+◌, ◌-◌, ◌≤◌, Bool, true, false, cond, leb, List, ◌++◌, length, take, drop, Some, None, Option, sym, refl, ap, ◌∙◌, append_assoc, arith, length-append, length-drop, length-take, le-leb, leb-true}
 use borrow.Rule.Slice.PartMut.{put_mid}
 use Rattle.std.proofs.lemmas.List.{drop-drop, take_at, drop_at}
-use Rattle.text.specs.Places.{over, Written}
+use Rattle.text.specs.Places.{over, placed, Written}
+
+-- A text where it fits.
+pub placed_in : (at : ℕ) (text out : List ℕ) → at + length text ≤ length out → placed at text out ≡ (Some (at + length text), over at text out)
+placed_in at text out room = rw (le-leb (at + length text) (length out) room)
 
 -- An output keeps its length.
 pub length_over : (at : ℕ) (text out : List ℕ) → at + length text ≤ length out → length (over at text out) ≡ length out
@@ -35,6 +39,20 @@ written_then {o} {m} {p} {xs} {ys} {at} {e} {end} v w =
       room = omega (arith, kept, w.room);
       whole = w.whole ∙ ap (over e ys) v.whole ∙ over_then at xs ys o e v.ends v.room;
     }
+
+-- A put that answers an end has written its text.
+pub placed_written : (at : ℕ) (xs o : List ℕ) {e : ℕ} {p : List ℕ} → ◌≡◌ {A = Option ℕ × List ℕ} (Some e, p) (placed at xs o) → Written o at xs e p
+placed_written at xs o {e} {p} done = by (leb (at + length xs) (length o)) refl done
+  where
+    by : (b : Bool) → leb (at + length xs) (length o) ≡ b → ◌≡◌ {A = Option ℕ × List ℕ} (Some e, p) (cond b (Some (at + length xs), over at xs o) (None, o)) → Written o at xs e p
+    by true fits same =
+        let some : ◌≡◌ {A = Option ℕ} (Some e) (Some (at + length xs)) = ap (λ q. q.0) same in
+        let ends : e ≡ at + length xs = cc in
+        record { ends = ends; room = omega (arith, leb-true _ _ fits); whole = ap (λ q. q.1) same }
+    by false full same =
+        let none : ◌≡◌ {A = Option ℕ} (Some e) None = ap (λ q. q.0) same in
+        let no : ◌≡◌ {A = ℕ} 0 1 = cc in
+        absurd (omega arith)
 
 -- A part of the output that a call filled with a text.
 pub written_part : (out ys xs : List ℕ) (at k : ℕ) → ys ≡ xs → k ≡ length xs → at + length xs ≤ length out → Written out at xs (at + k) (put_mid at (at + k - at) out ys)
