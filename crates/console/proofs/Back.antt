@@ -7,7 +7,7 @@ use Rattle.std.proofs.lemmas.Fmt.{digits_decimal, digits_value-decimal, decimal_
 use Rattle.std.proofs.lemmas.Str.Parse.{IsNumeralModel, numerals_by_fold}
 use Rattle.law.specs.declared.Call.{Call}
 use Rattle.law.specs.declared.Call.TheVariants.{Plan, Open, Reply, Report, Rate, Bar, Lift, Look, Leave}
-use Rattle.console.specs.Calls.{read_on, numeral, clamped, most_state, most_label, or_else, call_of, call_text, EveryCallHasALine, ReadsBack}
+use Rattle.console.specs.Calls.{read_on, numeral, clamped, most_state, most_label, or_else, call_of, EveryCallHasALine, ReadsBack}
 use Rattle.console.proofs.Numerals.{numeral_of_some}
 
 abbrev value_on : ℕ → List ℕ → ℕ
