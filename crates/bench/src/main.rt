@@ -5,55 +5,39 @@
 mod cases;
 
 use game::Game;
-use law::Verdict;
+use law::MOST;
 use nim::Nim;
-use solver::Cell;
+use solver::{Cell, EMPTY};
 use std::env;
 use std::time::Instant;
 use watch::Watch;
 
-// The number in the program's first word, or 0.
+// The number in the program's first word; 0 where no word is given.
+// Kept as a number: 0 rounds are no timing.
 fn times(rt: &HostRuntime) -> anyhow::Result<u32> {
-    match env::args(rt)?.skip(1).next() {
-        Some(word) => Ok(word.as_str().parse::<u32>()?),
-        None => Ok(0),
-    }
+    let word = env::args(rt)?.nth(1);
+    Ok(word.map_or(Ok(0), |word| word.as_str().parse::<u32>())?)
 }
 
 // All ranks and choices in one number.
 fn sum(cells: &[Cell]) -> u32 {
-    let mut sum: u32 = 0;
-    for cell in cells {
+    cells.iter().fold(0, |sum: u32, cell| {
         let rank = cell.rank.unwrap_or(9999);
-        let choice = cell.choice.unwrap_or(99);
-        sum = sum
-            .wrapping_mul(31)
+        let choice = u32::from(cell.choice.unwrap_or(99));
+        sum.wrapping_mul(31)
             .wrapping_add(rank)
             .wrapping_mul(31)
-            .wrapping_add(u32::from(choice));
-    }
-    sum
+            .wrapping_add(choice)
+    })
 }
 
-// The nanoseconds of one solution.
-fn time_solve<G: Game>(rt: &HostRuntime, game: &G, times: u32) -> anyhow::Result<u128> {
-    let mut cells = vec![in rt.alloc(); Cell {
-        rank: None,
-        choice: None
-    }; 4096]?;
+// The nanoseconds that one of so many calls took.
+fn time<F: FnMut()>(rt: &HostRuntime, times: u32, mut call: F) -> anyhow::Result<u128>
+    requires { F.IsAlwaysCallable call }
+{
     let start = Instant::now(rt)?;
     for _ in 0..times {
-        let _ = solver::solve(game, 0, cells.as_mut_slice());
-    }
-    let spent = start.elapsed(rt)?;
-    Ok(spent.as_nanos() / u128::from(times.max(1)))
-}
-
-// The nanoseconds of one plan.
-fn time_plan<G: Game>(rt: &HostRuntime, watch: &mut Watch<G>, times: u32) -> anyhow::Result<u128> {
-    let start = Instant::now(rt)?;
-    for _ in 0..times {
-        let _ = watch.plan();
+        call();
     }
     let spent = start.elapsed(rt)?;
     Ok(spent.as_nanos() / u128::from(times.max(1)))
@@ -64,42 +48,39 @@ fn run<G: Game + Copy>(rt: &HostRuntime, name: &str, game: G, times: u32) -> any
     let verdict = watch.plan();
     let sum = sum(watch.cells());
     match verdict {
-        Ok(Verdict::Held(rank)) => print!(rt; "{name} held {rank} {sum}")?,
-        Ok(Verdict::Lost(state)) => print!(rt; "{name} lost {state} {sum}")?,
+        Ok(verdict) => print!(rt; "{name} {verdict} {sum}")?,
         Err(_) => print!(rt; "{name} refused")?,
     }
     if times > 0 {
-        let solve = time_solve(rt, &game, times)?;
-        let plan = time_plan(rt, &mut watch, times)?;
+        let mut cells = vec![in rt.alloc(); EMPTY; MOST]?;
+        let solve = time(rt, times, || {
+            let _ = solver::solve(&game, 0, cells.as_mut_slice());
+        })?;
+        let plan = time(rt, times, || {
+            let _ = watch.plan();
+        })?;
         print!(rt; " {solve} {plan}")?;
     }
     println!(rt; "")?;
     Ok(())
 }
 
+// The sheets made by chance: states and moves.
+const RANDOM: [(&str, u16, u16); 3] = [
+    ("random-4096-7020", 4096, 7020),
+    ("random-2045-8192", 2045, 8192),
+    ("random-128-8192", 128, 8192),
+];
+
 fn main(rt: HostRuntime) -> anyhow::Result<()> {
     let heap = rt.alloc();
     let times = times(&rt)?;
     // Chosen while it runs, so that the compiler does not make a solver for 44 matches alone.
     let matches = if times == u32::MAX { 2 } else { 44 };
-    run(&rt, "chain-4096", cases::chain(heap, 4096)?.sheet(), times)?;
-    run(
-        &rt,
-        "random-4096-7020",
-        cases::random(heap, 4096, 7020)?.sheet(),
-        times,
-    )?;
-    run(
-        &rt,
-        "random-2045-8192",
-        cases::random(heap, 2045, 8192)?.sheet(),
-        times,
-    )?;
-    run(
-        &rt,
-        "random-128-8192",
-        cases::random(heap, 128, 8192)?.sheet(),
-        times,
-    )?;
+    run(&rt, "chain-4096", sample::chain(heap, 4096)?.sheet(), times)?;
+    for (name, size, moves) in RANDOM {
+        let tables = cases::random(heap, size, moves)?;
+        run(&rt, name, tables.sheet(), times)?;
+    }
     run(&rt, "nim-44", Nim { matches }, times)
 }

@@ -2,40 +2,45 @@
 #![tactic(auto)]
 
 use anyhow::anyhow;
-use listing::list;
+use brief::{count_lines, first_line, plan_line, respond};
 use nim::Nim;
-use sheet::{Move, Row};
+use sheet::{NO_MOVE, NO_ROW};
 use std::alloc::Global;
 use std::fs;
 use std::io::Write;
-use watch::Watch;
+use tables::{BYTES, MOVES, ROWS};
 
 // Answers over this length are told by their first line, their length and how many lines they have.
 const LONG: usize = 200;
 
-fn is_line_feed(b: u8) -> bool {
-    b == b'\n'
-}
+// The sheets that are answered, in this order.
+const STORED: [&str; 20] = [
+    "house",
+    "one",
+    "one-cut",
+    "one-flags",
+    "empty",
+    "byte",
+    "noise",
+    "named",
+    "long-name",
+    "high-label",
+    "large",
+    "lost",
+    "public-start",
+    "no-start",
+    "keeps-turn",
+    "falling",
+    "wrong-count",
+    "left-over",
+    "limit",
+    "chain",
+];
 
-fn count_lines(text: &[u8]) -> usize {
-    let mut count: usize = 0;
-    for b in text {
-        if is_line_feed(*b) {
-            count = count.saturating_add(1);
-        }
-    }
-    count
-}
+// The sheets that are read, written again and answered from what was written.
+const WRITTEN_AGAIN: [&str; 6] = ["house", "one", "named", "lost", "limit", "chain"];
 
-fn first_line(text: &[u8]) -> &[u8] {
-    for (i, b) in text.iter().enumerate() {
-        if is_line_feed(*b) {
-            return &text[0..i];
-        }
-    }
-    text
-}
-
+// Kept as two parameters, here and below: what prints is given the handle, and a case has a name.
 fn tell(rt: &HostRuntime, name: &str, text: &[u8]) -> anyhow::Result<()> {
     print!(rt; "{name}: ")?;
     if text.len() <= LONG {
@@ -43,77 +48,64 @@ fn tell(rt: &HostRuntime, name: &str, text: &[u8]) -> anyhow::Result<()> {
         return Ok(());
     }
     rt.stdout().write_all(first_line(text))?;
-    let length = text.len();
-    let lines = count_lines(text);
-    println!(rt; " .. {length} bytes, {lines} lines")?;
+    println!(rt; " .. {} bytes, {} lines", text.len(), count_lines(text))?;
     Ok(())
 }
 
-fn answer(rt: &HostRuntime, name: &str) -> anyhow::Result<()> {
+fn read_sheet(rt: &HostRuntime, name: &str) -> anyhow::Result<Vec<u8>> {
     let path = format!(in rt.alloc(); "{name}.sheet")?;
-    let input = fs::read(rt, path.as_str())?;
-    let mut out = vec![in rt.alloc(); 0u8; planner::ROOM]?;
-    let length = planner::respond(input.as_slice(), out.as_mut_slice()).unwrap_or(0);
-    let length = length.min(out.len());
-    tell(rt, name, &out[0..length])
+    Ok(fs::read(rt, path.as_str())?)
+}
+
+fn answer(rt: &HostRuntime, name: &str) -> anyhow::Result<()> {
+    let input = read_sheet(rt, name)?;
+    let text = respond(rt.alloc(), input.as_slice())?;
+    tell(rt, name, text.as_slice())
 }
 
 fn is_refusal(text: &[u8]) -> bool {
-    count_lines(text) == 1 && text.len() > 7 && &text[0..7] == b"REFUSED".as_slice()
+    count_lines(text) == 1 && text.starts_with(b"REFUSED")
 }
 
 // A sheet that is cut anywhere is refused in one line.
 fn cut_everywhere(rt: &HostRuntime, name: &str) -> anyhow::Result<()> {
-    let path = format!(in rt.alloc(); "{name}.sheet")?;
-    let input = fs::read(rt, path.as_str())?;
+    let input = read_sheet(rt, name)?;
     let whole = input.as_slice();
-    let mut out = vec![in rt.alloc(); 0u8; planner::ROOM]?;
     let mut refused: usize = 0;
+    // Kept: memory may run out at each cut, and a `?` here is plainer than a fold over results.
     for end in 0..whole.len() {
-        let length = planner::respond(&whole[0..end], out.as_mut_slice()).unwrap_or(0);
-        let length = length.min(out.len());
-        if is_refusal(&out[0..length]) {
+        let text = respond(rt.alloc(), &whole[..end])?;
+        if is_refusal(text.as_slice()) {
             refused = refused.saturating_add(1);
         }
     }
-    let cuts = whole.len();
-    println!(rt; "cuts of {name}: {refused} of {cuts} refused in one line")?;
+    println!(rt;
+        "cuts of {name}: {refused} of {} refused in one line",
+        whole.len()
+    )?;
     Ok(())
 }
 
-// Reads a sheet, writes it again, and answers the bytes written.
+// Reads a sheet and writes it again.
 fn rewritten(heap: Global, bytes: &[u8]) -> anyhow::Result<Vec<u8>> {
-    let mut rows = vec![in heap; Row {
-        flags: 0,
-        place: 0,
-        len: 0,
-        first: 0,
-        count: 0
-    }; 4096]?;
-    let mut moves = vec![in heap; Move {
-        label: 0,
-        target: 0
-    }; 8192]?;
-    let mut out = vec![in heap; 0u8; 65536]?;
-    let Ok(counts) = reader::read(bytes, rows.as_mut_slice(), moves.as_mut_slice()) else {
-        return Err(anyhow!("not read"));
-    };
-    let states = (counts.states as usize).min(rows.len());
-    let arcs = counts.moves.min(moves.len());
-    let Ok(length) = writer::write(&rows[0..states], &moves[0..arcs], bytes, out.as_mut_slice())
-    else {
-        return Err(anyhow!("not written"));
-    };
+    let mut rows = vec![in heap; NO_ROW; ROWS]?;
+    let mut moves = vec![in heap; NO_MOVE; MOVES]?;
+    let mut out = vec![in heap; 0u8; BYTES]?;
+    let sheet = tables::open(bytes, rows.as_mut_slice(), moves.as_mut_slice()).map_err(|_| anyhow!(
+        "not read"
+    ))?;
+    let length = writer::write(sheet.rows, sheet.moves, bytes, out.as_mut_slice()).map_err(
+        |_| anyhow!("not written"),
+    )?;
     out.truncate(length);
     Ok(out)
 }
 
 // A stored sheet, read, written, and answered from what was written.
 fn round_trip(rt: &HostRuntime, name: &str) -> anyhow::Result<()> {
-    let path = format!(in rt.alloc(); "{name}.sheet")?;
-    let input = fs::read(rt, path.as_str())?;
-    let length = input.len().min(65536);
-    let bytes = &input.as_slice()[0..length];
+    let input = read_sheet(rt, name)?;
+    let length = input.len().min(BYTES);
+    let bytes = &input.as_slice()[..length];
     let written = rewritten(rt.alloc(), bytes)?;
     let word = if written.as_slice() == bytes {
         "the same"
@@ -121,69 +113,22 @@ fn round_trip(rt: &HostRuntime, name: &str) -> anyhow::Result<()> {
         "other"
     };
     println!(rt; "{name} written again: {word} {length} bytes")?;
-    let mut out = vec![in rt.alloc(); 0u8; planner::ROOM]?;
-    let end = planner::respond(written.as_slice(), out.as_mut_slice()).unwrap_or(0);
-    let end = end.min(out.len());
-    tell(rt, name, &out[0..end])
-}
-
-// Fibonacci Nim: the verdict and how many kiosk states its plan meets, or the number of the refusal.
-fn nim(rt: &HostRuntime, matches: usize) -> anyhow::Result<()> {
-    let mut watch = Watch::new(Nim { matches });
-    if let Err(fault) = watch.plan() {
-        let number = fault.number();
-        println!(rt; "nim {matches}: refused {number}")?;
-        return Ok(());
-    }
-    let mut out = vec![in rt.alloc(); 0u8; planner::ROOM]?;
-    let end = list(&watch, out.as_mut_slice()).unwrap_or(0);
-    let end = end.min(out.len());
-    let lines = count_lines(&out[0..end]).saturating_sub(1);
-    print!(rt; "nim {matches}: ")?;
-    rt.stdout().write_all(first_line(&out[0..end]))?;
-    println!(rt; ", {lines} lines")?;
-    Ok(())
+    let text = respond(rt.alloc(), written.as_slice())?;
+    tell(rt, name, text.as_slice())
 }
 
 fn main(rt: HostRuntime) -> anyhow::Result<()> {
-    for name in [
-        "house",
-        "one",
-        "one-cut",
-        "one-flags",
-        "empty",
-        "byte",
-        "noise",
-    ] {
-        answer(&rt, name)?;
-    }
-    for name in [
-        "named",
-        "long-name",
-        "high-label",
-        "large",
-        "lost",
-        "public-start",
-        "no-start",
-    ] {
-        answer(&rt, name)?;
-    }
-    for name in [
-        "keeps-turn",
-        "falling",
-        "wrong-count",
-        "left-over",
-        "limit",
-        "chain",
-    ] {
+    for name in STORED {
         answer(&rt, name)?;
     }
     cut_everywhere(&rt, "house")?;
-    for name in ["house", "one", "named", "lost", "limit", "chain"] {
+    for name in WRITTEN_AGAIN {
         round_trip(&rt, name)?;
     }
+    // Fibonacci Nim: the verdict and how many kiosk states its plan meets, or the number of the refusal.
     for matches in [2, 4, 15, 45] {
-        nim(&rt, matches)?;
+        let line = plan_line(rt.alloc(), "nim", matches, Nim { matches })?;
+        rt.stdout().write_all(line.as_slice())?;
     }
     Ok(())
 }

@@ -7,12 +7,10 @@ ghost use Rattle.game.specs.Search.{some_below, first_below, first_of};
 ghost use Rattle.law.specs.Checks.{keeps_turn, state_fault, first_fault};
 
 use game::Game;
-use law::Fault;
-
-// The most states of a game that a watch plans over.
-const MOST: usize = 4096;
+use law::{Fault, MOST};
 
 // Whether the label is feasible in the state.
+// Kept as two parameters, here and below: a game is asked of a state, as in the trait.
 fn is_feasible<G: Game>(game: &G, s: usize, l: u8) -> bool
     ensures { result ≡ feasible (G.meaning game.now) s l }
 {
@@ -22,42 +20,27 @@ fn is_feasible<G: Game>(game: &G, s: usize, l: u8) -> bool
 fn has_feasible<G: Game>(game: &G, s: usize) -> bool
     ensures { result ≡ some_below (feasible (G.meaning game.now) s) (G.meaning game.now).ceiling }
 {
-    for l in 0..game.labels() {
-        if is_feasible(game, s, l) {
-            return true;
-        }
-    }
-    false
+    (0..game.labels()).any(|l| is_feasible(game, s, l))
 }
 
 // Whether the label is feasible in the state and leads to one at the same turn.
 fn keeps_turn<G: Game>(game: &G, s: usize, l: u8) -> bool
     ensures { result ≡ keeps_turn (G.meaning game.now) s l }
 {
-    if game.is_end(s) {
-        return false;
-    }
-    match game.next(s, l) {
-        Some(t) => {
-            let to = game.is_public(t);
-            if game.is_public(s) { to } else { !to }
-        }
-        None => false,
-    }
+    !game.is_end(s)
+        && game
+            .next(s, l)
+            .is_some_and(|t| game.is_public(t) == game.is_public(s))
 }
 
 fn first_keeping<G: Game>(game: &G, s: usize) -> Option<u8>
     ensures { result ≡ first_below (keeps_turn (G.meaning game.now) s) (G.meaning game.now).ceiling }
 {
-    for l in 0..game.labels() {
-        if keeps_turn(game, s, l) {
-            return Some(l);
-        }
-    }
-    None
+    (0..game.labels()).find(|&l| keeps_turn(game, s, l))
 }
 
 // The first fault of one state.
+// Kept as an Option: find_fault is public and answers one, and its parts answer alike.
 fn state_fault<G: Game>(game: &G, s: usize) -> Option<Fault>
     ensures { result ≡ state_fault (G.meaning game.now) s }
 {
@@ -67,32 +50,19 @@ fn state_fault<G: Game>(game: &G, s: usize) -> Option<Fault>
     if !game.is_end(s) && !has_feasible(game, s) {
         return Some(Fault::Stuck { state: s });
     }
-    match first_keeping(game, s) {
-        Some(l) => Some(Fault::KeepsTurn { state: s, label: l }),
-        None => None,
-    }
+    first_keeping(game, s).map(|label| Fault::KeepsTurn { state: s, label })
 }
 
 fn has_start<G: Game>(game: &G) -> bool
     ensures { result ≡ some_below (G.meaning game.now).start (G.meaning game.now).size }
 {
-    for s in 0..game.size() {
-        if game.is_start(s) {
-            return true;
-        }
-    }
-    false
+    (0..game.size()).any(|s| game.is_start(s))
 }
 
 fn states_fault<G: Game>(game: &G) -> Option<Fault>
     ensures { result ≡ first_of (state_fault (G.meaning game.now)) (G.meaning game.now).size }
 {
-    for s in 0..game.size() {
-        if let Some(f) = state_fault(game, s) {
-            return Some(f);
-        }
-    }
-    None
+    (0..game.size()).find_map(|s| state_fault(game, s))
 }
 
 // Whether the game has a state, and at most as many as a watch has cells.
@@ -104,6 +74,7 @@ fn has_size<G: Game>(game: &G) -> bool
 }
 
 // The fault that plan finds first: the size, no start, then state by state.
+#[tactic(auto, unfolding(law::specs::Checks::first_fault))]
 pub fn find_fault<G: Game>(game: &G) -> Option<Fault>
     ensures { result ≡ first_fault (G.meaning game.now) }
 {

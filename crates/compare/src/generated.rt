@@ -1,42 +1,32 @@
 // Sheets made by chance, the same at every run.
-use crate::tables::Tables;
+use sample::{Dice, Tables, share};
+use sheet::{END, GOAL, Move, PUBLIC, START};
 use std::alloc::{AllocError, Global};
 
-const PUBLIC: u8 = 1;
+// What dice give beside numbers.
+pub trait Draw {
+    fn is_one_in(&mut self, sides: u16) -> bool;
 
-const START: u8 = 2;
+    // A label below `sides`.
+    fn label(&mut self, sides: u16) -> u8;
 
-const END: u8 = 4;
+    fn byte(&mut self) -> u8;
 
-const GOAL: u8 = 8;
+    // A flag in one of so many cases, else none.
+    fn flag(&mut self, flag: u8, sides: u16) -> u8;
 
-// A linear congruential generator.
-#[derive(Drop)]
-pub struct Dice {
-    state: u64,
+    // The flags of a state that is no start.
+    fn flags(&mut self) -> u8;
+
+    // No bars, or some among the lowest labels.
+    fn bars(&mut self) -> u64;
 }
 
-impl Dice {
-    pub fn new(seed: u64) -> Dice {
-        Dice { state: seed }
-    }
-
-    // A number below `sides`; of no sides, 0.
-    fn roll(&mut self, sides: u16) -> u16 {
-        let next = self
-            .state
-            .wrapping_mul(6364136223846793005)
-            .wrapping_add(1442695040888963407);
-        self.state = next;
-        let drawn = ((next >> 48) & 0xffff) as u16;
-        if sides == 0 { 0 } else { drawn % sides }
-    }
-
+impl Draw for Dice {
     fn is_one_in(&mut self, sides: u16) -> bool {
         self.roll(sides) == 0
     }
 
-    // A label below `sides`.
     fn label(&mut self, sides: u16) -> u8 {
         (self.roll(sides) & 0xff) as u8
     }
@@ -45,20 +35,17 @@ impl Dice {
         self.label(256)
     }
 
-    // A flag in one of so many cases, else none.
     fn flag(&mut self, flag: u8, sides: u16) -> u8 {
         if self.is_one_in(sides) { flag } else { 0 }
     }
 
-    // The flags of a state that is no start.
     fn flags(&mut self) -> u8 {
         let turn = self.flag(PUBLIC, 2);
         let end = self.flag(END, 6);
         turn | end | self.flag(GOAL, if end == 0 { 16 } else { 2 })
     }
 
-    // No bars, or some among the lowest labels.
-    pub fn bars(&mut self) -> u64 {
+    fn bars(&mut self) -> u64 {
         if self.is_one_in(2) {
             return 0;
         }
@@ -66,83 +53,101 @@ impl Dice {
     }
 }
 
-// Flags of as many states, of which the first is a start, and here and there another at the kiosk's turn.
-fn flags(heap: Global, dice: &mut Dice, size: u16) -> Result<Vec<u8>, AllocError> {
-    let mut flags = Vec::new(heap);
-    flags.push(dice.flags() & !PUBLIC | START)?;
-    for _ in 1..size {
-        let drawn = dice.flags();
-        let start = if drawn & PUBLIC == 0 {
-            dice.flag(START, 30)
-        } else {
-            0
-        };
-        flags.push(drawn | start)?;
-    }
-    Ok(flags)
-}
-
-fn is_public(flags: &[u8], state: usize) -> bool {
-    match flags.get(state) {
-        Some(flags) => *flags & PUBLIC != 0,
-        None => false,
-    }
-}
-
-// The first state from `from` on, in a ring, that is at the other turn; if there is none, 0.
-fn opposite(flags: &[u8], state: usize, from: usize) -> u16 {
-    let size = flags.len();
-    for i in 0..size {
-        let to = from.wrapping_add(i) % size;
-        if is_public(flags, to) != is_public(flags, state) {
-            return (to & 0xffff) as u16;
-        }
-    }
-    0
-}
-
-// How far apart the labels of a state may be, and how far behind it a move may lead.
-#[derive(Clone, Copy)]
+// What the moves of a sheet are drawn from: the flags of its states, how far apart the labels of a state may be, and
+// how far behind it a move may lead.
+#[derive(Drop)]
 struct Shape {
+    flags: Vec<u8>,
     gap: u16,
     reach: u16,
 }
 
-// Moves of the last state, with labels that rise.
-fn add_moves(
-    tables: &mut Tables,
-    dice: &mut Dice,
-    flags: &[u8],
-    shape: Shape,
-    labels: u16,
-) -> Result<(), AllocError> {
-    let state = tables.rows.len().wrapping_sub(1);
-    let mut label = dice.label(shape.gap);
-    for _ in 0..labels {
-        let from = state.wrapping_add(usize::from(dice.roll(shape.reach)));
-        tables.add_move(label, opposite(flags, state, from))?;
-        label = label.wrapping_add(dice.label(shape.gap)).wrapping_add(1);
+impl Shape {
+    // Kept as two parameters, here and below: what allocates is given the heap, and the dice change.
+    // Flags of as many states, of which the first is a start, and here and there another at the kiosk's turn.
+    fn new(
+        heap: Global,
+        dice: &mut Dice,
+        size: u16,
+        gap: u16,
+        reach: u16,
+    ) -> Result<Shape, AllocError> {
+        let mut flags = Vec::new(heap);
+        flags.push(dice.flags() & !PUBLIC | START)?;
+        // Kept as a loop: each state is drawn after the last one, and memory may run out at each.
+        for _ in 1..size {
+            let drawn = dice.flags();
+            let start = if drawn & PUBLIC == 0 {
+                dice.flag(START, 30)
+            } else {
+                0
+            };
+            flags.push(drawn | start)?;
+        }
+        Ok(Shape { flags, gap, reach })
     }
-    Ok(())
+
+    fn is_public(&self, state: usize) -> bool {
+        self.flags
+            .get(state)
+            .is_some_and(|flags| *flags & PUBLIC != 0)
+    }
+
+    // The first state from `from` on, in a ring, that is at the other turn; if there is none, 0.
+    // Kept as a number: such a sheet is to be made too, since plan has to refuse it.
+    fn opposite(&self, state: usize, from: usize) -> u16 {
+        let size = self.flags.len();
+        (0..size)
+            .map(|i| from.wrapping_add(i) % size)
+            .find(|to| self.is_public(*to) != self.is_public(state))
+            .map_or(0, |to| (to & 0xffff) as u16)
+    }
+
+    // As many moves of a state, with labels that rise.
+    fn moves(
+        &self,
+        heap: Global,
+        dice: &mut Dice,
+        state: usize,
+        labels: u32,
+    ) -> Result<Vec<Move>, AllocError> {
+        // Kept as a loop: each label and target is drawn after the last one, and memory may run out at each.
+        let mut moves = Vec::new(heap);
+        let mut label = dice.label(self.gap);
+        for _ in 0..labels {
+            let from = state.wrapping_add(usize::from(dice.roll(self.reach)));
+            let target = self.opposite(state, from);
+            moves.push(Move { label, target })?;
+            label = label.wrapping_add(dice.label(self.gap)).wrapping_add(1);
+        }
+        Ok(moves)
+    }
+
+    // The tables, with as many labels of each state as the function says.
+    fn tables<F: FnMut(&mut Dice, u16) -> u32>(
+        &self,
+        heap: Global,
+        dice: &mut Dice,
+        mut labels: F,
+    ) -> Result<Tables, AllocError>
+        requires { F.IsAlwaysCallable labels }
+    {
+        let mut tables = Tables::new(heap);
+        for (state, flags) in (0..=u16::MAX).zip(self.flags.iter()) {
+            let count = labels(dice, state);
+            let moves = self.moves(heap, dice, usize::from(state), count)?;
+            tables.add_state(*flags, moves.as_slice())?;
+        }
+        Ok(tables)
+    }
 }
 
 // A sheet of at most 40 states with at most six labels each, in one of three cases spoiled in one place.
 pub fn sheet(heap: Global, dice: &mut Dice) -> Result<Tables, AllocError> {
     let size = dice.roll(40).wrapping_add(1);
     let reach = if dice.is_one_in(2) { 4 } else { size };
-    let flags = flags(heap, dice, size)?;
-    let mut tables = Tables::new(heap);
-    for each in flags.iter() {
-        tables.add_state(*each)?;
-        let labels = dice.roll(6).wrapping_add(1);
-        add_moves(
-            &mut tables,
-            dice,
-            flags.as_slice(),
-            Shape { gap: 4, reach },
-            labels,
-        )?;
-    }
+    let shape = Shape::new(heap, dice, size, 4, reach)?;
+    let mut tables = shape.tables(heap, dice, |dice, _| u32::from(dice.roll(6)) + 1)?;
     if dice.is_one_in(3) {
         spoil(&mut tables, dice);
     }
@@ -151,22 +156,39 @@ pub fn sheet(heap: Global, dice: &mut Dice) -> Result<Tables, AllocError> {
 
 // Changes the flags or the moves of one state, or the label or the target of one move.
 fn spoil(tables: &mut Tables, dice: &mut Dice) {
-    let row = usize::from(dice.roll(20));
-    let entry = usize::from(dice.roll(40));
+    let state = usize::from(dice.roll(20));
+    let number = usize::from(dice.roll(40));
+    // Kept: which case it is comes from the dice.
     match dice.roll(4) {
-        0 => tables.set_flags(row, dice.byte()),
-        1 => tables.claim(row, entry, usize::from(dice.roll(6))),
-        2 => tables.set_label(entry, dice.byte() % 80),
-        _ => tables.set_target(entry, dice.roll(42)),
+        0 => {
+            let flags = dice.byte();
+            change(&mut tables.rows, state, |row| row.flags = flags);
+        }
+        1 => {
+            let count = usize::from(dice.roll(6));
+            change(&mut tables.rows, state, |row| {
+                row.first = number;
+                row.count = count;
+            });
+        }
+        2 => {
+            let label = dice.byte() % 80;
+            change(&mut tables.moves, number, |entry| entry.label = label);
+        }
+        _ => {
+            let target = dice.roll(42);
+            change(&mut tables.moves, number, |entry| entry.target = target);
+        }
     }
 }
 
-// How many of the moves a state gets, in shares as even as can be.
-fn share(moves: u16, size: u16, state: u16) -> u16 {
-    if size == 0 {
-        return 0;
+// Changes the entry of that number, if there is one.
+fn change<T, F: FnOnce(&mut T)>(entries: &mut Vec<T>, number: usize, change: F)
+    requires { F.IsAlwaysCallable change }
+{
+    if let Some(entry) = entries.get_mut(number) {
+        change(entry);
     }
-    (moves / size).wrapping_add(u16::from(state < moves % size))
 }
 
 // A sheet with as many states and moves.
@@ -177,32 +199,6 @@ pub fn large(
     moves: u16,
     reach: u16,
 ) -> Result<Tables, AllocError> {
-    let flags = flags(heap, dice, size)?;
-    let mut tables = Tables::new(heap);
-    for (state, each) in (0..size).zip(flags.iter()) {
-        tables.add_state(*each)?;
-        let labels = share(moves, size, state);
-        add_moves(
-            &mut tables,
-            dice,
-            flags.as_slice(),
-            Shape { gap: 1, reach },
-            labels,
-        )?;
-    }
-    Ok(tables)
-}
-
-// A chain from the start to the goal with one move for each state.
-pub fn chain(heap: Global, size: u16) -> Result<Tables, AllocError> {
-    let mut tables = Tables::new(heap);
-    for state in 0..size {
-        let next = state.wrapping_add(1);
-        let turn = if state % 2 == 0 { 0 } else { PUBLIC };
-        let start = if state == 0 { START } else { 0 };
-        let end = if next == size { END | GOAL } else { 0 };
-        tables.add_state(turn | start | end)?;
-        tables.add_move(0, next)?;
-    }
-    Ok(tables)
+    let shape = Shape::new(heap, dice, size, 1, reach)?;
+    shape.tables(heap, dice, |_, state| share(moves, size, state))
 }

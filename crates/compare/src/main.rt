@@ -4,14 +4,13 @@
 mod agree;
 mod generated;
 mod house;
-mod tables;
 mod written;
 
 use agree::{Tally, compare};
-use generated::Dice;
+use generated::Draw;
 use nim::Nim;
+use sample::Dice;
 use std::alloc::{AllocError, Global};
-use std::io;
 
 // The house game under every set of bars of its labels.
 fn compare_house(heap: Global) -> Result<Tally, AllocError> {
@@ -34,8 +33,7 @@ fn compare_nim(heap: Global) -> Result<Tally, AllocError> {
 
 fn compare_handmade(heap: Global) -> Result<Tally, AllocError> {
     let mut tally = Tally::default();
-    for number in 0..house::HANDMADE {
-        let tables = house::handmade(heap, number)?;
+    for tables in house::handmade(heap)?.iter() {
         tally.compare(heap, tables.sheet(), 0)?;
     }
     Ok(tally)
@@ -58,47 +56,26 @@ fn compare_written(heap: Global) -> Result<Tally, AllocError> {
     for _ in 0..2000 {
         let tables = generated::sheet(heap, &mut dice)?;
         if let Some(read) = written::read_back(heap, &tables)? {
-            let (outcome, agreed) = compare(heap, read.sheet(), dice.bars())?;
-            tally.count(outcome, agreed && written::same_tables(&tables, &read));
+            let mut comparison = compare(heap, read.sheet(), dice.bars())?;
+            comparison.agreed &= written::same_tables(&tables, &read);
+            tally += Tally::from(comparison);
         }
     }
     Ok(tally)
 }
 
-// Sheets as large as can be written in 65,536 bytes.
+// States, moves and reach of sheets as large as can be written in 65,536 bytes.
+const LARGE: [(u16, u16, u16); 3] = [(4096, 7020, 4), (2045, 8192, 2045), (128, 8192, 128)];
+
 fn compare_large(heap: Global) -> Result<Tally, AllocError> {
     let mut dice = Dice::new(3);
     let mut tally = Tally::default();
-    tally.compare(heap, generated::chain(heap, 4096)?.sheet(), 0)?;
-    tally.compare(
-        heap,
-        generated::large(heap, &mut dice, 4096, 7020, 4)?.sheet(),
-        0,
-    )?;
-    tally.compare(
-        heap,
-        generated::large(heap, &mut dice, 2045, 8192, 2045)?.sheet(),
-        0,
-    )?;
-    tally.compare(
-        heap,
-        generated::large(heap, &mut dice, 128, 8192, 128)?.sheet(),
-        0,
-    )?;
+    tally.compare(heap, sample::chain(heap, 4096)?.sheet(), 0)?;
+    for (size, moves, reach) in LARGE {
+        let tables = generated::large(heap, &mut dice, size, moves, reach)?;
+        tally.compare(heap, tables.sheet(), 0)?;
+    }
     Ok(tally)
-}
-
-fn print_tally(rt: &HostRuntime, name: &str, tally: Tally) -> io::Result<()> {
-    let Tally {
-        compared,
-        agreed,
-        held,
-        lost,
-        refused,
-    } = tally;
-    println!(rt;
-        "{name}: {compared} compared, {agreed} agreed; {held} held, {lost} lost, {refused} refused"
-    )
 }
 
 fn main(rt: HostRuntime) -> anyhow::Result<()> {
@@ -113,9 +90,9 @@ fn main(rt: HostRuntime) -> anyhow::Result<()> {
     ];
     let mut all = Tally::default();
     for (name, tally) in groups {
-        print_tally(&rt, name, tally)?;
-        all.add(tally);
+        println!(rt; "{name}: {tally}")?;
+        all += tally;
     }
-    print_tally(&rt, "all", all)?;
+    println!(rt; "all: {all}")?;
     Ok(())
 }

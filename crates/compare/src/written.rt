@@ -1,26 +1,16 @@
 // Tables written as the bytes of a sheet, and read again.
-use crate::tables::Tables;
-use sheet::{Move, Row};
+use law::MOST;
+use sample::Tables;
+use sheet::{NO_MOVE, NO_ROW, Row};
 use std::alloc::{AllocError, Global};
+use tables::{BYTES, MOVES};
 
-const NO_ROW: Row = Row {
-    flags: 0,
-    place: 0,
-    len: 0,
-    first: 0,
-    count: 0,
-};
-
-const NO_MOVE: Move = Move {
-    label: 0,
-    target: 0,
-};
-
-// The tables as they are read from what is written of them, if they can be written.
+// The tables as they are read from what is written of them, if they can be written; empty tables stand for what could
+// not be read.
 pub fn read_back(heap: Global, tables: &Tables) -> Result<Option<Tables>, AllocError> {
-    let mut bytes = vec![in heap; 0u8; 65536]?;
-    let mut rows = vec![in heap; NO_ROW; 4096]?;
-    let mut moves = vec![in heap; NO_MOVE; 8192]?;
+    let mut bytes = vec![in heap; 0u8; BYTES]?;
+    let mut rows = vec![in heap; NO_ROW; MOST]?;
+    let mut moves = vec![in heap; NO_MOVE; MOVES]?;
     let written = writer::write(
         tables.rows.as_slice(),
         tables.moves.as_slice(),
@@ -41,11 +31,13 @@ pub fn read_back(heap: Global, tables: &Tables) -> Result<Option<Tables>, AllocE
 }
 
 // Whether the tables are the same but for where the names, of which there are none, lie.
+// Kept: derived equality compares those places too.
 pub fn same_tables(left: &Tables, right: &Tables) -> bool {
-    let mut same = left.rows.len() == right.rows.len()
-        && left.moves.as_slice() == right.moves.as_slice();
-    for (a, b) in left.rows.iter().zip(right.rows.iter()) {
-        same &= a.flags == b.flags && a.len == b.len && a.first == b.first && a.count == b.count;
-    }
-    same
+    let placeless = |row: &Row| Row { place: 0, ..*row };
+    let same_rows = left
+        .rows
+        .iter()
+        .map(placeless)
+        .eq(right.rows.iter().map(placeless));
+    same_rows && left.moves == right.moves
 }

@@ -1,6 +1,7 @@
 mod Answered
 mod Back
-mod Lines
+mod Folds
 mod Numerals
 mod Parts
 mod Transcripts
+mod Lines

@@ -6,10 +6,6 @@ pub carried : {X : Type 0} (done part more rest whole after : List X) → after 
 carried done part more rest whole after p q e =
     ap (λ (xs : List _). xs ++ more) p ∙ (append_assoc done part more ∙ (ap (λ (xs : List _). done ++ xs) (sym q) ∙ e))
 
--- nothing more is done, and the rest is no less
-pub kept : {X : Type 0} (done more rest whole after : List X) → after ≡ done → rest ≡ more → done ++ rest ≡ whole → after ++ more ≡ whole
-kept done more rest whole after p q e = ap (λ (xs : List _). xs ++ more) p ∙ (ap (λ (xs : List _). done ++ xs) (sym q) ∙ e)
-
 -- nothing is left
 pub settled : {X : Type 0} (done rest whole : List X) → rest ≡ [] → done ++ rest ≡ whole → done ≡ whole
 settled done rest whole q e = sym (append-nil done) ∙ (ap (λ (xs : List _). done ++ xs) (sym q) ∙ e)

@@ -4,7 +4,7 @@ use Rattle.game.specs.Meaning.{Meaning}
 use Rattle.law.specs.declared.Call.{Call}
 use Rattle.law.specs.declared.Answer.{Answer}
 use Rattle.watch.specs.Lived.{LawHolds, logged}
-use Rattle.console.specs.Answers.{answer_text}
+use Rattle.law.specs.Texts.{answer_text}
 use Rattle.console.specs.Calls.{call_of}
 
 -- a last line without its line feed, if anything stands there

@@ -1,15 +1,20 @@
 // Calls read from text.
-ghost use Rattle.std.specs.Prelude.{◌≡◌, ◌+◌, ◌*◌, min};
+ghost use Rattle.std.specs.Prelude.{◌≡◌, ◌+◌, ◌-◌, ◌*◌, min, cond, Some, None};
+ghost use Rattle.std.specs.Char.{is_ascii_digit};
 ghost use Rattle.std.specs.Str.{bytes_eq};
 ghost use Rattle.console.specs.Calls.{numeral, clamped, state_behind, label_behind, bare_call, state_call, label_call, call_of, most_state, ReadsBack};
 
 use law::Call;
 
-// One digit more; a number that gets too large is the highest one from then on.
-fn with_digit(n: usize, digit: u8) -> usize
-    ensures { result ≡ min (n * 10 + digit) most_state }
+// A number with one digit more, if the byte is one; a number that gets too large is the highest one from then on.
+fn with_digit(n: usize, c: &u8) -> Option<usize>
+    ensures { result ≡ cond (is_ascii_digit c.now) (Some (min (n * 10 + (c.now - 48)) most_state)) None }
 {
-    n.saturating_mul(10).saturating_add(usize::from(digit))
+    if c.is_ascii_digit() {
+        Some(n.saturating_mul(10).saturating_add(usize::from(*c - b'0')))
+    } else {
+        None
+    }
 }
 
 // The number that decimal digits write, or the highest one if it is too large.
@@ -19,56 +24,33 @@ pub fn parse_number(digits: &[u8]) -> Option<usize>
     if digits.is_empty() {
         return None;
     }
-    let mut n = 0usize;
-    for c in digits {
-        if !c.is_ascii_digit() {
-            return None;
-        }
-        n = with_digit(n, *c - b'0');
-    }
-    Some(n)
+    digits.iter().try_fold(0, with_digit)
 }
 
 // The state behind the lead, in a line that begins with it.
 fn state_behind(lead: &[u8], line: &[u8]) -> Option<usize>
     ensures { result ≡ state_behind lead.now line.now }
 {
-    match line.strip_prefix(lead) {
-        Some(digits) => parse_number(digits),
-        None => None,
-    }
+    line.strip_prefix(lead).and_then(parse_number)
 }
 
-// The label behind the lead.
+// The label behind the lead; a number that is too large for one is the highest one.
 fn label_behind(lead: &[u8], line: &[u8]) -> Option<u8>
     ensures { result ≡ label_behind lead.now line.now }
 {
-    match state_behind(lead, line) {
-        Some(n) => Some(n.min(255) as u8),
-        None => None,
-    }
-}
-
-fn is_word(line: &[u8], word: &[u8]) -> bool
-    ensures { result ≡ bytes_eq line.now word.now }
-{
-    line == word
+    state_behind(lead, line).map(|n| u8::try_from(n).unwrap_or(u8::MAX))
 }
 
 // A call of one word.
 fn bare_call(line: &[u8]) -> Option<Call>
     ensures { result ≡ bare_call line.now }
 {
-    if is_word(line, b"plan") {
-        Some(Call::Plan)
-    } else if is_word(line, b"reply") {
-        Some(Call::Reply)
-    } else if is_word(line, b"look") {
-        Some(Call::Look)
-    } else if is_word(line, b"leave") {
-        Some(Call::Leave)
-    } else {
-        None
+    match line {
+        b"plan" => Some(Call::Plan),
+        b"reply" => Some(Call::Reply),
+        b"look" => Some(Call::Look),
+        b"leave" => Some(Call::Leave),
+        _ => None,
     }
 }
 
@@ -76,41 +58,18 @@ fn bare_call(line: &[u8]) -> Option<Call>
 fn state_call(line: &[u8]) -> Option<Call>
     ensures { result ≡ state_call line.now }
 {
-    if let Some(state) = state_behind(b"open ", line) {
-        return Some(Call::Open(state));
-    }
-    match state_behind(b"rate ", line) {
-        Some(state) => Some(Call::Rate(state)),
-        None => None,
-    }
+    let open = state_behind(b"open ", line).map(Call::Open);
+    open.or_else(|| state_behind(b"rate ", line).map(Call::Rate))
 }
 
 // A call with a label.
 fn label_call(line: &[u8]) -> Option<Call>
     ensures { result ≡ label_call line.now }
 {
-    if let Some(label) = label_behind(b"report ", line) {
-        return Some(Call::Report(label));
-    }
-    if let Some(label) = label_behind(b"bar ", line) {
-        return Some(Call::Bar(label));
-    }
-    match label_behind(b"lift ", line) {
-        Some(label) => Some(Call::Lift(label)),
-        None => None,
-    }
-}
-
-fn read_call(line: &[u8]) -> Option<Call>
-    ensures { result ≡ call_of line.now }
-{
-    if let Some(call) = bare_call(line) {
-        return Some(call);
-    }
-    match state_call(line) {
-        Some(call) => Some(call),
-        None => label_call(line),
-    }
+    let report = label_behind(b"report ", line).map(Call::Report);
+    report
+        .or_else(|| label_behind(b"bar ", line).map(Call::Bar))
+        .or_else(|| label_behind(b"lift ", line).map(Call::Lift))
 }
 
 // The call that a line is; a line that is no call is none.
@@ -118,5 +77,7 @@ pub fn parse_call(line: &[u8]) -> Option<Call>
     ensures value { result ≡ call_of line.now }
     ensures back { ReadsBack line.now result }
 {
-    read_call(line)
+    bare_call(line)
+        .or_else(|| state_call(line))
+        .or_else(|| label_call(line))
 }

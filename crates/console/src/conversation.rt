@@ -1,36 +1,31 @@
 // A conversation with a new watch: lines in, one line out for each.
-ghost use Rattle.std.specs.Prelude.{◌≡◌, ◌++◌, IfOk, string_bytes, codes, OnOk, ◌==◌};
-ghost use Rattle.console.specs.Answers.{answer_text};
-ghost use Rattle.console.specs.Calls.{EveryCallHasALine};
+ghost use Rattle.std.specs.Prelude.{◌≡◌, IfOk, string_bytes, ◌==◌, map};
+ghost use Rattle.std.specs.List.{slice_split};
+ghost use Rattle.console.specs.Calls.{EveryCallHasALine, call_of};
 ghost use Rattle.console.specs.Conversation.{Answered, Conversation, calls_in, readable, transcript};
 
-use crate::answers::show_answer;
 use crate::calls::parse_call;
 use game::Game;
 use law::{Answer, Call};
 use std::alloc::{AllocError, Global};
 use watch::watch_all;
 
-fn ends_line(c: u8) -> bool
-    ensures { result ≡ (c == 10) }
+// What each part of the input between line feeds is: a call, or none.
+// Kept as two parameters, here and below: what allocates is given the heap.
+fn read_parts(heap: Global, input: &[u8]) -> Result<Vec<Option<Call>>, AllocError>
+    ensures { IfOk result (λ v. v.items ≡ map call_of (slice_split (λ c. c == 10) input.now)) }
 {
-    c == b'\n'
+    input.split(|c| *c == b'\n').map(parse_call).collect(heap)
 }
 
 // What each line of the input is: a call, or none. The last line may lack its line feed.
 fn read_calls(heap: Global, input: &[u8]) -> Result<Vec<Option<Call>>, AllocError>
     ensures { IfOk result (λ v. v.items ≡ calls_in input.now) }
 {
-    let mut lines = Vec::new(heap);
-    let mut start = 0;
-    for (i, c) in input.iter().enumerate() {
-        if ends_line(*c) {
-            lines.push(parse_call(&input[start..i]))?;
-            start = i + 1;
-        }
-    }
-    if start < input.len() {
-        lines.push(parse_call(&input[start..]))?;
+    let mut lines = read_parts(heap, input)?;
+    // What follows the last line feed is a line only if something stands there.
+    if input.last().is_none_or(|c| *c == b'\n') {
+        lines.pop();
     }
     Ok(lines)
 }
@@ -39,28 +34,7 @@ fn read_calls(heap: Global, input: &[u8]) -> Result<Vec<Option<Call>>, AllocErro
 fn readable(heap: Global, lines: &[Option<Call>]) -> Result<Vec<Call>, AllocError>
     ensures { IfOk result (λ v. v.items ≡ readable lines.now) }
 {
-    let mut calls = Vec::new(heap);
-    for line in lines {
-        if let Some(call) = *line {
-            calls.push(call)?;
-        }
-    }
-    Ok(calls)
-}
-
-fn show_line(heap: Global, answer: Answer) -> Result<String, AllocError>
-    ensures { IfOk result (λ t. string_bytes t ≡ answer_text answer ++ codes "\n") }
-{
-    let shown = show_answer(heap, answer)?;
-    format!(in heap; "{shown}\n")
-}
-
-// Adds a line with an answer.
-fn put_answer(heap: Global, text: &mut String, answer: Answer) -> Result<(), AllocError>
-    ensures { OnOk result (string_bytes text.new ≡ string_bytes text.old ++ (answer_text answer ++ codes "\n")) }
-{
-    let line = show_line(heap, answer)?;
-    text.push_str(line.as_str())
+    lines.iter().filter_map(|line| *line).collect(heap)
 }
 
 // A line for each line of the input: the next answer for a call.
@@ -72,13 +46,12 @@ fn show_answers(
     ensures { IfOk result (λ t. string_bytes t ≡ transcript lines.now answers.now) }
 {
     let mut text = String::new(heap);
-    let mut told = 0;
+    let mut answers = answers.iter();
     for line in lines {
         if line.is_none() {
             text.push_str("unreadable\n")?;
-        } else if told < answers.len() {
-            put_answer(heap, &mut text, answers[told])?;
-            told += 1;
+        } else if let Some(answer) = answers.next() {
+            writeln!(text, "{answer}")?;
         } else {
             break;
         }
@@ -87,6 +60,7 @@ fn show_answers(
 }
 
 // The answers of a new watch over the game to the calls.
+// Kept: watch_all, on which the law of a whole list stands, fills memory that it is lent.
 fn answer_all<G: Game + Drop>(
     heap: Global,
     game: G,
@@ -100,6 +74,7 @@ fn answer_all<G: Game + Drop>(
 }
 
 // Asks a new watch over the game the calls in the input, and tells its answers: a line for each line of the input.
+#[tactic(auto, using(crate::proofs::Back::read_back))]
 pub fn converse<G: Game + Drop>(heap: Global, game: G, input: &[u8]) -> Result<String, AllocError>
     ensures told { IfOk result (λ t. Conversation (G.meaning game) input.now (string_bytes t)) }
     ensures complete { EveryCallHasALine }

@@ -1,18 +1,15 @@
 -- The laws of every game hold of a corridor.
-use Rattle.std.specs.Prelude.{◌≡◌, ℕ, ◌+◌, ◌<◌, ◌≤◌, Bool, true, false, cond, Some, None, ◌==◌, nat_lt, refl}
+use Rattle.std.specs.Prelude.{◌≡◌, ℕ, ◌+◌, ◌<◌, ◌≤◌, false, Some, ◌==◌, nat_lt}
 use Rattle.std.proofs.Common.{subst, arith, lit≤}
 use Rattle.std.proofs.lemmas.Bool.{and_parts, and_left, and_right, ne_eqb, ltb-true, le-ltb, cond-false}
+use Rattle.std.proofs.lemmas.Option.{cond_some}
 use Rattle.game.specs.Meaning.{Lawful}
 use Rattle.corridor.specs.Corridors.{corridor_meaning, step_on}
-
-some_if : (b : Bool) (x t : ℕ) → cond b (Some x) None ≡ Some t → (b ≡ true) × (x ≡ t)
-some_if true x t h = (refl, cc)
-some_if false x t h = let z : ◌≡◌ {A = ℕ} 0 1 = cc in absurd (omega arith)
 
 -- a next room is a room
 step_inside : (n s l t : ℕ) → step_on n s l ≡ Some t → t < n
 step_inside n s l t h =
-    let p = some_if _ (s + 1) t h in
+    let p = cond_some _ (s + 1) t h in
     let rooms = (and_parts (l == 0) _ p.0).1 in
     subst (λ (x : ℕ). x < n) p.1 (ltb-true (s + 1) n (and_parts (nat_lt s n) _ rooms).1)
 

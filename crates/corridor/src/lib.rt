@@ -54,10 +54,10 @@ impl Game for Corridor {
 
     // The only label steps on.
     fn next(&self, state: usize, label: u8) -> Option<usize> {
-        if label == 0 && state < self.rooms && state + 1 < self.rooms {
-            Some(state + 1)
-        } else {
-            None
+        let rooms = self.rooms;
+        if label >= Self::CEILING {
+            return None;
         }
+        state.checked_add(1).filter(|room| *room < rooms)
     }
 }

@@ -2,6 +2,8 @@
 
 use Rattle.std.proofs.Common.{◌≡◌, ℕ, zero, suc, ◌+◌, ◌-◌, ◌<◌, ◌≤◌, Bool, true, false, cond, eqb, leb, List, [], ◌∷◌, ◌++◌, map, length, get_or, take, drop, replicate, Some, None, Ok, Err, Option, Result, sym, refl, ap, ◌∙◌, subst, inl, inr, ⊎_elim, append_assoc, arith, length-append, length-drop}
 use Rattle.std.specs.List.{flat_map, AllByRecursion}
+use Rattle.std.proofs.lemmas.Grind.{flat_map-append}
+use Rattle.std.proofs.lemmas.List.Folds.{flat_map-map}
 use Rattle.std.proofs.ByRecursion.{All-append, All-push}
 use Rattle.std.proofs.lemmas.List.{append-nil, map-append, length-map, length-replicate, length_push, flat_map_more, take_at, take-take, take-append-drop, drop-take, length-take-le}
 use Rattle.std.proofs.lemmas.Bool.{leb-true, leb-false, eqb-true, eqb-false, cond-true, cond-false, cases_Bool, cases_lt, both_ways}
@@ -10,6 +12,7 @@ use Rattle.records.specs.declared.RecordFault.TheVariants.{Byte, Mark, Field}
 use Rattle.records.specs.declared.SheetFault.{SheetFault}
 use Rattle.records.specs.declared.SheetFault.TheVariants.{Record, Order, Count, Excess, Room}
 use Rattle.records.specs.declared.Expect.TheVariants as expects
+use Rattle.records.specs.Faults.{index_of}
 use Rattle.records.specs.Records.{Item, move, end, next, record_at}
 use Rattle.sheet.specs.declared.Row.{Row}
 use Rattle.format.specs.declared.Arc.{Arc}
@@ -20,17 +23,9 @@ use Rattle.format.specs.Blame.{records_of, Good, Starts, NoSheet, TooShort, TooL
 use Rattle.format.proofs.Fields.{next_ok, next_inv, choose_inv, ok_same}
 use Rattle.format.proofs.Records.{head_here, state_there, state_here, move_there, MoveHere, EndHere, tail_here}
 use Rattle.format.proofs.Whole.{sheet_inv, prepend_inv, states_there, states_here, tail_move, tail_inv, head_read, encoded_read}
-use Rattle.format.proofs.Local.{Bytes, Alike, alike_less, alike_drop, Done, ok_err, err_ok, err_same, choose_err, Reason, lift, record_wrong, end_same}
+use Rattle.format.proofs.Local.{Bytes, Alike, alike_less, alike_drop, Done, ok_err, err_ok, err_same, choose_err, Reason, Kind, lift, record_wrong, end_same}
 
 -- the records of a sheet are its bytes
-
-joined_map : {X : Type 0} (f : X → List ℕ) (xs : List X) → flat_map (λ r. r) (map f xs) ≡ flat_map f xs
-joined_map f [] = refl
-joined_map f (x ∷ xs) = ap (λ y. f x ++ y) (joined_map f xs)
-
-joined_append : {X : Type 0} (f : X → List ℕ) (xs ys : List X) → flat_map f (xs ++ ys) ≡ flat_map f xs ++ flat_map f ys
-joined_append f [] ys = refl
-joined_append f (x ∷ xs) ys = ap (λ y. f x ++ y) (joined_append f xs ys) ∙ sym (append_assoc (f x) (flat_map f xs) (flat_map f ys))
 
 pub encode_records : (s : Sheet) → flat_map (λ r. r) (records_of s) ≡ encode s
 encode_records s =
@@ -38,9 +33,9 @@ encode_records s =
     let e = end_bytes (length s.moves) in
     let a = map state_bytes s.states in
     let b = map move_bytes s.moves in
-    ap (λ x. h ++ x) (joined_append (λ r. r) a (b ++ (e ∷ [])))
-    ∙ ap (λ x. h ++ (x ++ flat_map (λ r. r) (b ++ (e ∷ [])))) (joined_map state_bytes s.states)
-    ∙ ap (λ x. h ++ (flat_map state_bytes s.states ++ x)) (joined_append (λ r. r) b (e ∷ []) ∙ ap (λ x. x ++ (e ++ [])) (joined_map move_bytes s.moves) ∙ ap (λ x. flat_map move_bytes s.moves ++ x) (append-nil e))
+    ap (λ x. h ++ x) (flat_map-append (λ r. r) a (b ++ (e ∷ [])))
+    ∙ ap (λ x. h ++ (x ++ flat_map (λ r. r) (b ++ (e ∷ [])))) (flat_map-map (λ r. r) state_bytes s.states)
+    ∙ ap (λ x. h ++ (flat_map state_bytes s.states ++ x)) (flat_map-append (λ r. r) b (e ∷ []) ∙ ap (λ x. x ++ (e ++ [])) (flat_map-map (λ r. r) move_bytes s.moves) ∙ ap (λ x. flat_map move_bytes s.moves ++ x) (append-nil e))
 
 records_count : (s : Sheet) → length (records_of s) ≡ length s.states + 1 + length s.moves + 1
 records_count s =
@@ -90,7 +85,7 @@ module _ (bs : List ℕ) where
           (let c = records_count s in omega (arith, c, len)),
           ap (λ x. flat_map (λ r. r) (take i (hd ∷ x))) split
               ∙ records_front hd (map state_bytes ss) rest i (omega (arith, m))
-              ∙ ap (λ x. hd ++ x) (joined_map state_bytes ss)
+              ∙ ap (λ x. hd ++ x) (flat_map-map (λ r. r) state_bytes ss)
               ∙ ap (λ k. head_bytes k ++ flat_map state_bytes ss) len
               ∙ h,
         ),
@@ -111,9 +106,9 @@ module _ (bs : List ℕ) where
           (let c = records_count s in omega (arith, c)),
           ap (λ x. flat_map (λ r. r) (take i (hd ∷ x))) (sym (append_assoc a b e))
               ∙ records_front hd (a ++ b) e i (omega (arith, m))
-              ∙ ap (λ x. hd ++ x) (joined_append (λ r. r) a b)
-              ∙ ap (λ x. hd ++ (x ++ flat_map (λ r. r) b)) (joined_map state_bytes ss)
-              ∙ ap (λ x. hd ++ (flat_map state_bytes ss ++ x)) (joined_map move_bytes arcs)
+              ∙ ap (λ x. hd ++ x) (flat_map-append (λ r. r) a b)
+              ∙ ap (λ x. hd ++ (x ++ flat_map (λ r. r) b)) (flat_map-map (λ r. r) state_bytes ss)
+              ∙ ap (λ x. hd ++ (flat_map state_bytes ss ++ x)) (flat_map-map (λ r. r) move_bytes arcs)
               ∙ sym (append_assoc hd (flat_map state_bytes ss) (flat_map move_bytes arcs))
               ∙ h,
         ),
@@ -248,34 +243,23 @@ module _ (bs : List ℕ) where
     abbrev Tail : Option Arc → ℕ → ℕ → Bool → List ℕ → Type 0
     Tail last at k t cs = Done (tail_at size last cs at k)
 
+    -- a record in whose place no sheet goes on, since a test of what stands there fails in all bytes that begin alike
+    refused_here : (last : Option Arc) (at k to : ℕ) (f : SheetFault) (b : Bool) (r : List ℕ → Result (Option (Arc × ℕ)) SheetFault) → index_of f ≡ size + 1 + k → Kind bs f at to → at ≤ to → to ≤ length bs → b ≡ false → ((cs : List ℕ) → Alike to bs cs → tail_at size last cs at k ≡ cond b (r cs) (Err f)) → Reason bs (size + 1 + k) at at f (Tail last at k)
+    refused_here last at k to f b r i d l m t e = (i, to, l, m, d, λ _ cs al _ u. both_ways b t (choose_inv b (r cs) f u.0 (sym (e cs al) ∙ u.1)).0)
+
     move_order : (last : Option Arc) (at k : ℕ) (a : Arc) → ArcFits size a → above_last last a ≡ false → drop at bs ≡ move_bytes a ++ drop (at + 7) bs → at ≤ length bs → Reason bs (size + 1 + k) at at (Order (size + 1 + k) at) (Tail last at k)
     move_order last at k a f t h l =
         let n = size + 1 + k in
-        let r = inside at (move_bytes a) (drop (at + 7) bs) l h in (
-          refl,
-          at + 7,
-          omega arith,
-          omega (arith, r),
-          (refl, refl),
-          λ _ cs al _ u.
-              let d = alike_drop bs cs (move_bytes a) at (at + 7) refl al h in
-              let j = next_ok (λ p. tail_judged last cs at n k p.0 p.1) (ap in_sheet (move_there cs at n size a (drop (at + 7) cs) high f d)) in
-              both_ways (above_last last a) t (choose_inv (above_last last a) (Ok (Some (a, at + 7))) _ u.0 (sym j ∙ u.1)).0,
-        )
+        let r = inside at (move_bytes a) (drop (at + 7) bs) l h in
+        refused_here last at k (at + 7) (Order n at) (above_last last a) (λ _. Ok (Some (a, at + 7))) refl (refl, refl) (omega arith) (omega (arith, r)) t
+        (λ cs al. next_ok (λ p. tail_judged last cs at n k p.0 p.1) (ap in_sheet (move_there cs at n size a (drop (at + 7) cs) high f (alike_drop bs cs (move_bytes a) at (at + 7) refl al h))))
 
     end_count : (last : Option Arc) (at k count : ℕ) → eqb count k ≡ false → record_at (expects.Tail size) bs at (size + 1 + k) ≡ Ok (end count, at + 6) → drop at bs ≡ end_bytes count ++ drop (at + 6) bs → at ≤ length bs → Reason bs (size + 1 + k) at at (Count (size + 1 + k) at) (Tail last at k)
     end_count last at k count t e h l =
         let n = size + 1 + k in
-        let r = inside at (end_bytes count) (drop (at + 6) bs) l h in (
-          refl,
-          at + 6,
-          omega arith,
-          omega (arith, r),
-          (refl, refl),
-          λ _ cs al _ u.
-              let j = next_ok (λ p. tail_judged last cs at n k p.0 p.1) (ap in_sheet (end_same bs cs at n size count al h ∙ e)) in
-              both_ways (eqb count k) t (choose_inv (eqb count k) (cond (eqb (at + 6) (length cs)) (Ok None) (Err (Excess n (at + 6)))) _ u.0 (sym j ∙ u.1)).0,
-        )
+        let r = inside at (end_bytes count) (drop (at + 6) bs) l h in
+        refused_here last at k (at + 6) (Count n at) (eqb count k) (λ cs. cond (eqb (at + 6) (length cs)) (Ok None) (Err (Excess n (at + 6)))) refl (refl, refl) (omega arith) (omega (arith, r)) t
+        (λ cs al. next_ok (λ p. tail_judged last cs at n k p.0 p.1) (ap in_sheet (end_same bs cs at n size count al h ∙ e)))
 
     end_excess : (last : Option Arc) (at k : ℕ) → eqb (at + 6) (length bs) ≡ false → drop at bs ≡ end_bytes k ++ drop (at + 6) bs → After last at k → Reason bs (size + 1 + k) at at (Excess (size + 1 + k) (at + 6)) (Tail last at k)
     end_excess last at k t h b =

@@ -5,6 +5,7 @@ use native.Mathlib.Nat.{add-mul-mod_self_left, add-mul-div_left, div-eq_of_lt, m
 use Rattle.std.proofs.lemmas.List.{get_or-drop, drop-drop, drop_more, drop_at, take_at, take-append-drop, length-take-le}
 use Rattle.std.proofs.lemmas.Bool.{lt-ltb, le-leb, ltb-true, leb-true, cond-true, and_parts, and_from}
 use Rattle.records.specs.declared.ByteFault.{ByteFault}
+use Rattle.records.specs.declared.RecordFault.{RecordFault}
 use Rattle.records.specs.Fields.{byte_at, u16_at, u32_at, part_at, is_byte, judged}
 use Rattle.records.specs.Records.{next}
 use Rattle.format.specs.Format.{u16_bytes, u32_bytes}
@@ -31,6 +32,13 @@ field_ok {v = v} ok at n h t = ap (judged ok at n) h ∙ cond-true (ok v) _ _ t
 pub field_inv : {A : Type 0} (ok : A → Bool) (at n : ℕ) (r : Result A ByteFault) (v : A) → judged ok at n r ≡ Ok v → (r ≡ Ok v) × (ok v ≡ true)
 field_inv ok at n (Ok w) v h = let p = choose_inv (ok w) (Ok w) _ v h in (ap (λ x. Ok x) (ok_same w v p.1), ap ok (sym (ok_same w v p.1)) ∙ p.0)
 field_inv ok at n (Err e) v h = let z : ◌≡◌ {A = ℕ} 0 1 = cc in absurd (omega arith)
+
+-- a field that was taken and judged, and what came of it
+pub field_here : {A B : Type 0} (ok : A → Bool) (at n : ℕ) (r : Result A ByteFault) (f : A → Result B RecordFault) (x : B) → next (judged ok at n r) f ≡ Ok x → (v : A) × (r ≡ Ok v) × (ok v ≡ true) × (f v ≡ Ok x)
+field_here ok at n r f x h =
+    let a = next_inv (judged ok at n r) f x h in
+    let b = field_inv ok at n r a.0 a.1 in
+    (a.0, b.0, b.1, a.2)
 
 -- numbers
 

@@ -16,7 +16,7 @@ use Rattle.records.specs.Fields.{byte_at, u16_at, u32_at, part_at, is_byte, judg
 use Rattle.records.specs.Records.{Item, head, state, move, end, next, head_at, state_at, move_at, end_at, marked_by, record_at}
 use Rattle.format.specs.Format.{Sheet, Fits, encode, u32_bytes, end_bytes}
 use Rattle.format.specs.Blame.{records_of, Good}
-use Rattle.format.proofs.Fields.{next_inv, choose_inv, ok_same, field_inv}
+use Rattle.format.proofs.Fields.{field_here, choose_inv, ok_same}
 use Rattle.format.proofs.Records.{mark_there}
 
 -- bytes that begin alike
@@ -232,9 +232,8 @@ module _ (bs : List ℕ) where
 
     goes_inv : (cs : List ℕ) → Done (Goes cs) → (v : A) × (F cs ≡ Ok v) × (good v ≡ true) × Done (K v cs)
     goes_inv cs d =
-        let p = next_inv (judged good o i (F cs)) (λ v. K v cs) d.0 d.1 in
-        let q = field_inv good o i (F cs) p.0 p.1 in
-        (p.0, q.0, q.1, (d.0, p.2))
+        let p = field_here good o i (F cs) (λ v. K v cs) d.0 d.1 in
+        (p.0, p.1, p.2, (d.0, p.3))
 
     step_short : (b : ByteFault) → F bs ≡ Err b → Byte b ≡ e → Reason i at o (Record e) (λ t cs. Done (Goes cs))
     step_short b h m =

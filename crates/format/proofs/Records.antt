@@ -11,7 +11,7 @@ use Rattle.records.specs.Fields.{byte_at, u16_at, u32_at, part_at, judged, withi
 use Rattle.records.specs.Records.{Item, head, state, move, end, head_at, state_at, move_at, end_at, marked_by, record_at}
 use Rattle.format.specs.declared.Arc.{Arc}
 use Rattle.format.specs.Format.{State, u16_bytes, u32_bytes, head_bytes, state_bytes, move_bytes, end_bytes, StateFits, ArcFits}
-use Rattle.format.proofs.Fields.{next_ok, next_inv, choose_inv, ok_same, field_ok, field_inv, skip, byte_there, byte_here, u16_there, u16_here, u32_there, u32_here, part_there, part_here}
+use Rattle.format.proofs.Fields.{next_ok, next_inv, choose_inv, ok_same, field_ok, field_inv, field_here, skip, byte_there, byte_here, u16_there, u16_here, u32_there, u32_here, part_there, part_here}
 
 within_from : (low high v : ℕ) → low ≤ v → v ≤ high → within low high v ≡ true
 within_from low high v h k = and_from (leb low v) (leb v high) (le-leb low v h) (le-leb v high k)
@@ -53,23 +53,21 @@ module _ (bs : List ℕ) (at n : ℕ) where
       let m = mark_here expects.Head q h in
       let ch = choose_inv (bytes_eq m.0 (codes "SH")) (head_at bs at n) _ q m.1 in
       let im : m.0 ≡ codes "SH" = (bytes_eq-Decides m.0 (codes "SH")).0 ch.0 in
-      let v = next_inv (judged (within 1 1) (at + 2) n (byte_at bs (at + 2) n)) _ q ch.1 in
-      let fv = field_inv (within 1 1) (at + 2) n (byte_at bs (at + 2) n) v.0 v.1 in
-      let iv = within_parts 1 1 v.0 fv.1 in
+      let v = field_here (within 1 1) (at + 2) n (byte_at bs (at + 2) n) _ q ch.1 in
+      let iv = within_parts 1 1 v.0 v.2 in
       let ev : v.0 ≡ 1 = omega (arith, iv) in
-      let s = next_inv (judged (within 1 4096) (at + 3) n (u16_at bs (at + 3) n)) _ q v.2 in
-      let fs = field_inv (within 1 4096) (at + 3) n (u16_at bs (at + 3) n) s.0 s.1 in
-      let is' = within_parts 1 4096 s.0 fs.1 in
+      let s = field_here (within 1 4096) (at + 3) n (u16_at bs (at + 3) n) _ q v.3 in
+      let is' = within_parts 1 4096 s.0 s.2 in
       let k : at + 2 + 1 ≡ at + 3 = omega arith in
       let j : at + 3 + 2 ≡ at + 5 = omega arith in (
         s.0,
-        sym (ok_same _ _ s.2),
+        sym (ok_same _ _ s.3),
         is'.0,
         is'.1,
         m.2
             ∙ ap (λ x. x ++ drop (at + 2) bs) im
-            ∙ ap (λ x. 83 ∷ 72 ∷ x) (byte_here bs (at + 2) n v.0 fv.0 ∙ ap (λ x. x ∷ drop (at + 2 + 1) bs) ev ∙ ap (λ i. 1 ∷ drop i bs) k)
-            ∙ ap (λ x. 83 ∷ 72 ∷ 1 ∷ x) (u16_here bs (at + 3) n s.0 fs.0 ∙ ap (λ i. u16_bytes s.0 ++ drop i bs) j),
+            ∙ ap (λ x. 83 ∷ 72 ∷ x) (byte_here bs (at + 2) n v.0 v.1 ∙ ap (λ x. x ∷ drop (at + 2 + 1) bs) ev ∙ ap (λ i. 1 ∷ drop i bs) k)
+            ∙ ap (λ x. 83 ∷ 72 ∷ 1 ∷ x) (u16_here bs (at + 3) n s.0 s.1 ∙ ap (λ i. u16_bytes s.0 ++ drop i bs) j),
       )
 
   -- state
@@ -94,23 +92,20 @@ module _ (bs : List ℕ) (at n : ℕ) where
       let m = mark_here expects.State q h in
       let ch = choose_inv (bytes_eq m.0 (codes "ST")) (state_at bs at n) _ q m.1 in
       let im : m.0 ≡ codes "ST" = (bytes_eq-Decides m.0 (codes "ST")).0 ch.0 in
-      let f = next_inv (judged are_flags (at + 2) n (byte_at bs (at + 2) n)) _ q ch.1 in
-      let ff = field_inv are_flags (at + 2) n (byte_at bs (at + 2) n) f.0 f.1 in
-      let l = next_inv (judged (within 0 16) (at + 3) n (byte_at bs (at + 3) n)) _ q f.2 in
-      let fl = field_inv (within 0 16) (at + 3) n (byte_at bs (at + 3) n) l.0 l.1 in
-      let w = next_inv (judged all_printable (at + 4) n (part_at l.0 bs (at + 4) n)) _ q l.2 in
-      let fw = field_inv all_printable (at + 4) n (part_at l.0 bs (at + 4) n) w.0 w.1 in
-      let pw = part_here l.0 bs (at + 4) n w.0 fw.0 in
+      let f = field_here are_flags (at + 2) n (byte_at bs (at + 2) n) _ q ch.1 in
+      let l = field_here (within 0 16) (at + 3) n (byte_at bs (at + 3) n) _ q f.3 in
+      let w = field_here all_printable (at + 4) n (part_at l.0 bs (at + 4) n) _ q l.3 in
+      let pw = part_here l.0 bs (at + 4) n w.0 w.1 in
       let k : at + 2 + 1 ≡ at + 3 = omega arith in
       let j : at + 3 + 1 ≡ at + 4 = omega arith in
       let e = sym pw.0 in (
         record { flags = f.0; name = w.0 },
-        sym (ok_same _ _ w.2) ∙ ap (λ i. (state f.0 (at + 4) w.0, at + 4 + i)) e,
-        (ff.1, (let b = (within_parts 0 16 l.0 fl.1).1 in omega (arith, b, pw.0)), fw.1),
+        sym (ok_same _ _ w.3) ∙ ap (λ i. (state f.0 (at + 4) w.0, at + 4 + i)) e,
+        (f.2, (let b = (within_parts 0 16 l.0 l.2).1 in omega (arith, b, pw.0)), w.2),
         m.2
             ∙ ap (λ x. x ++ drop (at + 2) bs) im
-            ∙ ap (λ x. 83 ∷ 84 ∷ x) (byte_here bs (at + 2) n f.0 ff.0 ∙ ap (λ i. f.0 ∷ drop i bs) k)
-            ∙ ap (λ x. 83 ∷ 84 ∷ f.0 ∷ x) (byte_here bs (at + 3) n l.0 fl.0 ∙ ap (λ i. l.0 ∷ drop i bs) j)
+            ∙ ap (λ x. 83 ∷ 84 ∷ x) (byte_here bs (at + 2) n f.0 f.1 ∙ ap (λ i. f.0 ∷ drop i bs) k)
+            ∙ ap (λ x. 83 ∷ 84 ∷ f.0 ∷ x) (byte_here bs (at + 3) n l.0 l.1 ∙ ap (λ i. l.0 ∷ drop i bs) j)
             ∙ ap (λ x. 83 ∷ 84 ∷ f.0 ∷ l.0 ∷ x) pw.1
             ∙ ap (λ i. 83 ∷ 84 ∷ f.0 ∷ i ∷ (w.0 ++ drop (at + 4 + i) bs)) e,
       )
@@ -139,33 +134,29 @@ module _ (bs : List ℕ) (at n : ℕ) where
 
   fields_here : (size : ℕ) (q : Item × ℕ) → 1 ≤ size → move_at size bs at n ≡ Ok q → (a : Arc) × (q ≡ (move a.source a.label a.target, at + 7)) × ArcFits size a × (drop (at + 2) bs ≡ (u16_bytes a.source ++ (a.label ∷ u16_bytes a.target)) ++ drop (at + 7) bs)
   fields_here size q low h =
-      let s = next_inv (judged (below size) (at + 2) n (u16_at bs (at + 2) n)) _ q h in
-      let fs = field_inv (below size) (at + 2) n (u16_at bs (at + 2) n) s.0 s.1 in
-      let l = next_inv (judged (within 0 63) (at + 4) n (byte_at bs (at + 4) n)) _ q s.2 in
-      let fl = field_inv (within 0 63) (at + 4) n (byte_at bs (at + 4) n) l.0 l.1 in
-      let t = next_inv (judged (below size) (at + 5) n (u16_at bs (at + 5) n)) _ q l.2 in
-      let ft = field_inv (below size) (at + 5) n (u16_at bs (at + 5) n) t.0 t.1 in
+      let s = field_here (below size) (at + 2) n (u16_at bs (at + 2) n) _ q h in
+      let l = field_here (within 0 63) (at + 4) n (byte_at bs (at + 4) n) _ q s.3 in
+      let t = field_here (below size) (at + 5) n (u16_at bs (at + 5) n) _ q l.3 in
       let k : at + 2 + 2 ≡ at + 4 = omega arith in
       let j : at + 4 + 1 ≡ at + 5 = omega arith in
       let i : at + 5 + 2 ≡ at + 7 = omega arith in
-      let ws = ltb-true s.0 size fs.1 in
-      let wl = (within_parts 0 63 l.0 fl.1).1 in
-      let wt = ltb-true t.0 size ft.1 in (
+      let ws = ltb-true s.0 size s.2 in
+      let wl = (within_parts 0 63 l.0 l.2).1 in
+      let wt = ltb-true t.0 size t.2 in (
         record { source = s.0; label = l.0; target = t.0 },
-        sym (ok_same _ _ t.2),
+        sym (ok_same _ _ t.3),
         (omega (arith, ws), omega (arith, wl), omega (arith, wt)),
-        u16_here bs (at + 2) n s.0 fs.0
+        u16_here bs (at + 2) n s.0 s.1
             ∙ ap (λ x. u16_bytes s.0 ++ drop x bs) k
-            ∙ ap (λ x. u16_bytes s.0 ++ x) (byte_here bs (at + 4) n l.0 fl.0 ∙ ap (λ x. l.0 ∷ drop x bs) j)
-            ∙ ap (λ x. u16_bytes s.0 ++ (l.0 ∷ x)) (u16_here bs (at + 5) n t.0 ft.0 ∙ ap (λ x. u16_bytes t.0 ++ drop x bs) i),
+            ∙ ap (λ x. u16_bytes s.0 ++ x) (byte_here bs (at + 4) n l.0 l.1 ∙ ap (λ x. l.0 ∷ drop x bs) j)
+            ∙ ap (λ x. u16_bytes s.0 ++ (l.0 ∷ x)) (u16_here bs (at + 5) n t.0 t.1 ∙ ap (λ x. u16_bytes t.0 ++ drop x bs) i),
       )
 
   last_here : (q : Item × ℕ) → end_at bs at n ≡ Ok q → (count : ℕ) × (q ≡ (end count, at + 6)) × (drop (at + 2) bs ≡ u32_bytes count ++ drop (at + 6) bs)
   last_here q h =
-      let c = next_inv (judged (λ _. true) (at + 2) n (u32_at bs (at + 2) n)) _ q h in
-      let fc = field_inv (λ _. true) (at + 2) n (u32_at bs (at + 2) n) c.0 c.1 in
+      let c = field_here (λ _. true) (at + 2) n (u32_at bs (at + 2) n) _ q h in
       let k : at + 2 + 4 ≡ at + 6 = omega arith in
-      (c.0, sym (ok_same _ _ c.2), u32_here bs (at + 2) n c.0 fc.0 ∙ ap (λ x. u32_bytes c.0 ++ drop x bs) k)
+      (c.0, sym (ok_same _ _ c.3), u32_here bs (at + 2) n c.0 c.1 ∙ ap (λ x. u32_bytes c.0 ++ drop x bs) k)
 
   -- a move or the end
 

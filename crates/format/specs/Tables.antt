@@ -6,14 +6,6 @@ use Rattle.sheet.specs.declared.Move.{Move}
 use Rattle.format.specs.declared.Arc.{Arc}
 use Rattle.format.specs.Format.{State, Sheet}
 
--- a row that is not in use
-abbrev pub zero_row : Row
-zero_row = record { flags = 0; place = 0; len = 0; first = 0; count = 0 }
-
--- a move that is not in use
-abbrev pub zero_move : Move
-zero_move = record { label = 0; target = 0 }
-
 -- From a sheet to its tables
 
 -- a move without its source

@@ -41,6 +41,7 @@ impl WriteFault {
     }
 
     // The row at fault: 0 where no row is.
+    // Kept as a number: 0 is what a refusal names that names no row.
     pub fn row(&self) -> usize
         ensures { result ≡ row_named self.now }
     {

@@ -1,4 +1,5 @@
 pub mod Searches
+pub mod Ranges
 pub mod Meanings
 pub mod Layers
 pub mod Rules

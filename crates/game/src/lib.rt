@@ -16,6 +16,8 @@ pub trait Game {
     ghost lawful: { (x : Self) → Lawful (meaning x) };
 
     // The ceiling of labels, as each game answers it with its constant.
+    // Kept in each: tried as one body over a ghost of the constant, which an impl with a lifetime, as the sheet's, cannot
+    // give its clause yet.
     fn labels(&self) -> u8
         ensures { result ≡ (meaning self.now).ceiling };
 

@@ -4,3 +4,4 @@ pub mod Answers
 pub mod Log
 pub mod Verdicts
 pub mod Law
+pub mod Texts

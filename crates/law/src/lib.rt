@@ -4,6 +4,11 @@
 ghost use Rattle.std.specs.Prelude.{◌≡◌};
 ghost use Rattle.law.specs.Faults.{number_of, named_state, named_label};
 
+mod display;
+
+// The most states of a game that a watch plans over.
+pub const MOST: usize = 4096;
+
 // Why a call on a watch is refused.
 #[derive(Clone, Copy, Drop, PartialEq, Eq, Debug)]
 pub enum Fault {
@@ -58,13 +63,14 @@ impl Fault {
     }
 
     // The state that the refusal names, or 0.
+    // Kept as a number, as is the label: 0 is what is printed where a refusal names nothing.
     pub fn state(&self) -> usize
         ensures { result ≡ named_state self.now }
     {
         match *self {
-            Fault::Stuck { state } => state,
-            Fault::KeepsTurn { state, .. } => state,
-            Fault::PublicStart { state } => state,
+            Fault::Stuck { state }
+            | Fault::KeepsTurn { state, .. }
+            | Fault::PublicStart { state } => state,
             _ => 0,
         }
     }
@@ -81,6 +87,7 @@ impl Fault {
 }
 
 // What plan says: held, with the highest rank of a start, or lost, with the lowest start that has no rank.
+// Kept, and no Result: lost is an answer and no error, and `?` would hand it on like a refusal of plan.
 #[derive(Clone, Copy, Drop, PartialEq, Eq, Debug)]
 pub enum Verdict {
     Held(u32),
@@ -99,6 +106,7 @@ pub enum Rating {
 }
 
 // What look shows. Without a run there is no position and no turn, and nothing is over.
+// Kept as fields of their own and no Option of all three: callers read them by name, and what is printed shows each.
 #[derive(Clone, Copy, Drop, PartialEq, Eq, Debug)]
 pub struct View {
     pub position: Option<usize>,

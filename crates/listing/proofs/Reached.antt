@@ -146,3 +146,17 @@ module _ (m : Meaning) (ok : Lawful m) (ρ : Ranking) where
 
   pub reaches_reached : (t : ℕ) → Reaches m ρ t → reached m ρ t ≡ true
   reaches_reached t r = ap (reached m ρ) (sym r.there) ∙ within_reached (length r.play) (at r.from r.play) (play_within r.from r.starts r.play r.by_choices)
+
+  pub reached_inside : (t : ℕ) → reached m ρ t ≡ true → t < m.size
+  unfolding reached
+  reached_inside t e = go m.size t e
+    where
+      go : (k t : ℕ) → reached_within m ρ k t ≡ true → t < m.size
+      go zero t e = start_inside m ok t (start_within t e)
+      go (suc k) t e = next_inside (reached_within m ρ k) t (within_of k t e)
+
+  pub reached_start : (s : ℕ) → m.start s ≡ true → reached m ρ s ≡ true
+  reached_start s e = reaches_reached s (reaches_start m ρ s e)
+
+  pub reached_more : (s l t : ℕ) → reached m ρ s ≡ true → follow m ρ s l ≡ Some t → reached m ρ t ≡ true
+  reached_more s l t r e = reaches_reached t (reaches_more m ρ s l t (reached_reaches s r) e)

@@ -1,7 +1,6 @@
 -- The lines of a listing, one after another.
-use Rattle.std.proofs.Common.{◌≡◌, ℕ, zero, suc, ◌+◌, ◌<◌, ◌≤◌, cond, List, [], ◌++◌, length, take, drop, Ok, Err, sym, ap, ◌∙◌, ⊎_elim, add-one, arith, length-append}
-use Rattle.std.proofs.lemmas.List.{take-append-drop}
-use Rattle.std.proofs.lemmas.Bool.{cases_lt, le-leb, lt-leb}
+use Rattle.std.proofs.Common.{◌≡◌, ℕ, zero, suc, ◌+◌, ◌≤◌, cond, List, ◌++◌, length, drop, Ok, Err, sym, ap, ◌∙◌, ⊎_elim, add-one, arith, length-append}
+use Rattle.std.proofs.lemmas.Bool.{cases_lt, le-leb}
 use Rattle.game.specs.Meaning.{Meaning}
 use Rattle.law.specs.Answers.{Ranking}
 use Rattle.text.specs.Places.{Written}
@@ -9,12 +8,6 @@ use Rattle.text.proofs.Places.{over_front}
 use Rattle.listing.specs.declared.ListFault.TheVariants.{Room}
 use Rattle.listing.specs.Lines.{line_of, lines_below}
 use Rattle.listing.specs.Answers.{put_whole}
-
--- nothing is written
-pub written_none : (o : List ℕ) (at : ℕ) → at ≤ length o → Written o at [] at o
-written_none o at room =
-    let zero' : at + 0 ≡ at = omega arith in
-    record { ends = omega arith; room = room; whole = sym (ap (λ (k : ℕ). take at o ++ drop k o) zero' ∙ take-append-drop at o) }
 
 module _ (m : Meaning) (ρ : Ranking) where
   pub lines_more : (n : ℕ) → lines_below m ρ (n + 1) ≡ lines_below m ρ n ++ line_of m ρ n
@@ -37,7 +30,3 @@ pub put_in : (text o p : List ℕ) (e : ℕ) → Written o 0 text e p → (Ok e,
 put_in text o p e w =
     let ends : e ≡ length text = omega (arith, w.ends) in
     ap (λ n. (Ok n, p)) ends ∙ ap (λ x. (Ok (length text), x)) (w.whole ∙ over_front text o) ∙ sym (ap (λ b. cond b (Ok (length text), text ++ drop (length text) o) (Err Room, o)) (le-leb (length text) (length o) (omega (arith, w.room))))
-
--- a text that does not fit
-pub put_out : (text o : List ℕ) → length o < length text → (Err Room, o) ≡ put_whole text o
-put_out text o full = sym (ap (λ b. cond b (Ok (length text), text ++ drop (length text) o) (Err Room, o)) (lt-leb (length text) (length o) full))

@@ -5,7 +5,7 @@ use Rattle.law.specs.Answers.{Ranking, plan_verdict}
 use Rattle.law.specs.declared.Verdict.{Verdict}
 use Rattle.law.specs.declared.Verdict.TheVariants.{Held, Lost}
 use Rattle.text.specs.Lines.{count_line, line}
-use Rattle.listing.specs.declared.lines.Entry.{Entry}
+use Rattle.listing.specs.declared.entry.Entry.{Entry}
 use Rattle.listing.specs.Reach.{reached}
 
 -- s has a line: it is reached, at the kiosk's turn, and not done

@@ -1,7 +1,7 @@
 // The listing of a plan: its verdict, and the lines of the states that plays by its choices reach.
 #![tactic(auto)]
 
-ghost use Rattle.std.specs.Prelude.{◌≡◌, ◌≤◌, true, length, codes};
+ghost use Rattle.std.specs.Prelude.{◌≡◌, true, codes};
 ghost use Rattle.game.specs.Ranks.{Bars};
 ghost use Rattle.law.specs.Answers.{ranking};
 ghost use Rattle.law.specs.Log.{Log, barred, stands};
@@ -11,21 +11,21 @@ ghost use Rattle.listing.specs.Lines.{listing_text, text_after};
 ghost use Rattle.listing.specs.Plays.{Right};
 ghost use Rattle.solver.specs.Cells.{Solved, ranking_in};
 ghost use Rattle.text.specs.Lines.{count_line};
-ghost use Rattle.text.specs.Places.{Written};
 ghost use Rattle.watch.specs.Lived.{Lived};
 ghost use Rattle.watch.specs.Memory.{ranking_of};
 
+mod entry;
 mod lines;
-mod reach;
+mod plan;
 mod walk;
 
 use game::Game;
-use law::Verdict;
-use lines::{lines_width, put_lines};
-use reach::reach;
+use law::{MOST, Verdict};
+use plan::Plan;
 use solver::Cell;
 use solver::outcome::verdict;
-use text::{count_width, put_count};
+use text::{Line, Page};
+use walk::reach;
 use watch::Watch;
 
 // Why a listing is refused.
@@ -57,14 +57,6 @@ pub fn list<G: Game>(watch: &Watch<G>, out: &mut [u8]) -> Result<usize, ListFaul
     ensures standing { (L : Log) → Lived (G.meaning watch.now.game) L watch.now.memory → stands L ≡ true → (result, out.new) ≡ put_whole (listing_text (G.meaning watch.now.game) (ranking (G.meaning watch.now.game) (barred L))) out.old }
     ensures right { (b : Bars) → Right (G.meaning watch.now.game) b }
 {
-    list_watch(watch, out)
-}
-
-fn list_watch<G: Game>(watch: &Watch<G>, out: &mut [u8]) -> Result<usize, ListFault>
-    ensures value { (result, out.new) ≡ listed (G.meaning watch.now.game) (ranking_of watch.now.memory) watch.now.memory.planned out.old }
-    ensures lived { (L : Log) → Lived (G.meaning watch.now.game) L watch.now.memory → (result, out.new) ≡ listed (G.meaning watch.now.game) (ranking (G.meaning watch.now.game) (barred L)) (stands L) out.old }
-    ensures right { (b : Bars) → Right (G.meaning watch.now.game) b }
-{
     list_cells(watch.game(), watch.cells(), watch.is_planned(), out)
 }
 
@@ -80,55 +72,47 @@ fn list_cells<G: Game>(
     ensures solved { (b : Bars) → Solved (G.meaning game.now) b cells.now → (result, out.new) ≡ listed (G.meaning game.now) (ranking (G.meaning game.now) b) planned out.old }
     ensures right { (b : Bars) → Right (G.meaning game.now) b }
 {
-    if planned & (game.size() <= 4096) {
-        list_plan(game, cells, out)
+    if planned && game.size() <= MOST {
+        list_plan(Plan { game, cells }, out)
     } else {
         Err(ListFault::NoPlan)
     }
 }
 
-fn list_plan<G: Game>(game: &G, cells: &[Cell], out: &mut [u8]) -> Result<usize, ListFault>
-    requires { (G.meaning game.now).size ≤ 4096 }
-    ensures { (result, out.new) ≡ put_whole (listing_text (G.meaning game.now) (ranking_in cells.now)) out.old }
+fn list_plan<G: Game>(plan: Plan<G>, out: &mut [u8]) -> Result<usize, ListFault>
+    ensures { (result, out.new) ≡ put_whole (listing_text (G.meaning plan.entry.game.now) (ranking_in plan.entry.cells.now)) out.old }
 {
-    match verdict(game, cells) {
-        Verdict::Held(top) => list_held(game, cells, top, out),
+    match verdict(plan.game, plan.cells) {
+        Verdict::Held(top) => list_held(plan, top, out),
         Verdict::Lost(s) => list_lost(s, out),
     }
 }
 
+// Kept: `u64` has no `From<usize>`, as in Rust.
 fn list_lost(s: usize, out: &mut [u8]) -> Result<usize, ListFault>
     ensures { (result, out.new) ≡ put_whole (count_line (codes "LOST ") s) out.old }
 {
-    match put_count(out, 0, b"LOST ", s as u64) {
-        Some(end) => Ok(end),
-        None => Err(ListFault::Room),
-    }
+    let line = Line {
+        lead: b"LOST ",
+        numbers: &[s as u64],
+    };
+    Page { out, at: 0 }.put(&line).ok_or(ListFault::Room)
 }
 
 // The length is known before the first byte is written, so that a refusal leaves the output as found.
-fn list_held<G: Game>(
-    game: &G,
-    cells: &[Cell],
-    top: u32,
-    out: &mut [u8],
-) -> Result<usize, ListFault>
-    requires { (G.meaning game.now).size ≤ 4096 }
-    ensures { (result, out.new) ≡ put_whole (text_after (G.meaning game.now) (ranking_in cells.now) (Held top)) out.old }
+fn list_held<G: Game>(plan: Plan<G>, top: u32, out: &mut [u8]) -> Result<usize, ListFault>
+    ensures { (result, out.new) ≡ put_whole (text_after (G.meaning plan.entry.game.now) (ranking_in plan.entry.cells.now) (Held top)) out.old }
 {
-    let walk = reach(game, cells);
-    let width = count_width(b"HELD ", top as u64) + lines_width(game, cells, &walk);
-    if out.len() < width {
+    let reached = reach(plan);
+    let line = Line {
+        lead: b"HELD ",
+        numbers: &[u64::from(top)],
+    };
+    if out.len() < line.width() + reached.width() {
         return Err(ListFault::Room);
     }
-    let end = put_held(out, top);
-    Ok(put_lines(game, cells, &walk, out, end))
-}
-
-// Writes the line of a verdict, for which there is room, and answers where it ends.
-fn put_held(out: &mut [u8], top: u32) -> usize
-    requires { length (count_line (codes "HELD ") top) ≤ length out.old }
-    ensures { Written out.old 0 (count_line (codes "HELD ") top) result out.new }
-{
-    put_count(out, 0, b"HELD ", top as u64).unwrap_or(0)
+    let mut page = Page { out, at: 0 };
+    page.put(&line).unwrap();
+    reached.put(&mut page);
+    Ok(page.at)
 }

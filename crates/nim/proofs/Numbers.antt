@@ -1,10 +1,11 @@
 -- The number of a state gives back its player, what remains and what was taken, and the rules at them.
-use Rattle.std.proofs.Common.{◌≡◌, ℕ, ◌+◌, ◌-◌, ◌*◌, ◌/◌, ◌%◌, ◌<◌, ◌≤◌, Bool, true, false, ◌&&◌, eqb, leb, Some, None, Option, sym, refl, ap, ◌∙◌, subst, ⊎_elim, arith}
+use Rattle.std.proofs.Common.{◌≡◌, ℕ, ◌+◌, ◌-◌, ◌*◌, ◌/◌, ◌%◌, ◌<◌, ◌≤◌, Bool, true, false, cond, ◌&&◌, eqb, leb, Some, None, Option, IfSome, sym, refl, ap, ◌∙◌, subst, ⊎_elim, arith}
 use Rattle.std.proofs.lemmas.Bool.{and_parts, and_from, both_ways, leb-true, le-leb, lt-ltb, ltb-true, eqb-true, eq-eqb, ne_eqb, cases_eq, cases_Bool, cond-true, cond_both}
 use Rattle.std.proofs.lemmas.Nat.{div-mul-add, mod-mul-add, mod_below, div-add-mod'}
 use Rattle.nim.specs.Nims.{nim_size, playable, in_range, number_of, state_of, is_state, player_of, remaining_of, taken_of}
 use Rattle.nim.specs.NimLaws.{state_true, true_state, player_le, number_below}
 use Rattle.nim.specs.Positions.{Position, Stands, EveryState}
+use Rattle.nim.specs.Turns.{IsTurn}
 
 module _ (n j r p : ℕ) (few : r ≤ n) (some : 1 ≤ p) (most : p ≤ n) where
   row_first : number_of n j r p ≡ (j * (n + 1) + r) * n + (p - 1)
@@ -88,3 +89,19 @@ every_state n s h =
     let row : (player_of n s * (n + 1) + remaining_of n s) * n ≡ s / n * n = ap (λ (x : ℕ). x * n) (div-add-mod' (s / n) (n + 1)) in
     let back : number_of n (player_of n s) (remaining_of n s) (taken_of n s) ≡ s = omega (arith, row, div-add-mod' s n) in
     cond-true _ _ _ (ranged n (player_of n s) (remaining_of n s) (taken_of n s) i.low i.high (player_le n s i) (omega arith) (omega arith) (omega arith)) ∙ ap Some back
+
+-- a state is a turn that the game can have
+pub possible : (n s : ℕ) (b : Bool) → is_state n s ≡ b → IfSome (cond b (Some (record { player = player_of n s; remaining = remaining_of n s; taken = taken_of n s })) None) (IsTurn n)
+possible n s true h =
+    let i = state_true n s h in
+    let low = i.low in
+    let left : remaining_of n s < n + 1 = mod_below (s / n) (n + 1) (omega arith) in
+    let last : s % n < n = mod_below s n (omega (arith, low)) in
+    record {
+      most_matches = i.high;
+      player = player_le n s i;
+      remaining = omega (arith, left);
+      some_taken = omega arith;
+      taken = omega (arith, last);
+    }
+possible n s false h = tt

@@ -1,3 +1,4 @@
 pub mod Nims
 pub mod NimLaws
 pub mod Positions
+pub mod Turns

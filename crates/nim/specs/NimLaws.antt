@@ -3,6 +3,7 @@ use Rattle.std.specs.Prelude.{◌≡◌, ℕ, ◌+◌, ◌-◌, ◌*◌, ◌/◌
 use Rattle.std.proofs.Common.{sym, subst, arith, mul_comm, lit≤}
 use Rattle.std.proofs.lemmas.Bool.{and_parts, and_from, and_left, ltb-true, leb-true, le-leb, lt-ltb, le-ltb, cond-true, cond-false}
 use Rattle.std.proofs.lemmas.Nat.{div_below, mul-add-lt, mod_below, mul-le}
+use Rattle.std.proofs.lemmas.Option.{cond_some}
 use Rattle.game.specs.Meaning.{Lawful}
 use Rattle.nim.specs.Nims.{nim_meaning, nim_size, nim_next, playable, number_of, is_state, State, may_take, player_of, remaining_of, taken_of}
 
@@ -43,14 +44,10 @@ may_parts n r p a h =
     let z = and_parts (nat_le a r) _ y.1 in
     (leb-true 1 a x.0, ltb-true a n y.0, leb-true a r z.0)
 
-some_if : (b : Bool) (x t : ℕ) → cond b (Some x) None ≡ Some t → (b ≡ true) × (x ≡ t)
-some_if true x t h = (refl, cc)
-some_if false x t h = let z : ◌≡◌ {A = ℕ} 0 1 = cc in absurd (omega arith)
-
 next_below : (n s a t : ℕ) → nim_next n s a ≡ Some t → t < nim_size n
 next_below n s a t h =
     let to : ℕ = number_of n (1 - player_of n s) (remaining_of n s - a) a in
-    let p = some_if (is_state n s && may_take n (remaining_of n s) (taken_of n s) a) to t h in
+    let p = cond_some (is_state n s && may_take n (remaining_of n s) (taken_of n s) a) to t h in
     let both = and_parts (is_state n s) _ p.0 in
     let i = state_true n s both.0 in
     let m = may_parts n (remaining_of n s) (taken_of n s) a both.1 in

@@ -1,8 +1,9 @@
 // Fibonacci Nim as a game between the kiosk and the public.
 #![tactic(auto)]
 
-ghost use Rattle.std.specs.Prelude.{◌≡◌, ◌≤◌, true};
-ghost use Rattle.nim.specs.Nims.{nim_meaning, is_state, number_of, state_of, State};
+ghost use Rattle.std.specs.Prelude.{◌≡◌, IfSome, true};
+ghost use Rattle.nim.specs.Nims.{nim_meaning, playable, is_state, in_range, number_of, state_of, State};
+ghost use Rattle.nim.specs.Turns.{IsTurn, turn_at};
 ghost use Rattle.nim.specs.NimLaws.{nim_lawful};
 ghost use Rattle.nim.specs.Positions.{Stands, EveryState};
 
@@ -17,32 +18,69 @@ pub struct Nim {
     pub matches: usize,
 }
 
-// The number of a state: what was taken last varies fastest, then what remains, then the player.
-fn number(n: usize, player: usize, remaining: usize, taken: usize) -> usize
-    requires { (n ≤ 44) × ((player ≤ 1) × ((remaining ≤ n) × ((1 ≤ taken) × (taken ≤ n)))) }
-    ensures { result ≡ number_of n player remaining taken }
-{
-    (player * (n + 1) + remaining) * n + taken - 1
-}
-
-// The number of a state, if the game has one of that player, remaining and taken.
-fn state_of(n: usize, player: usize, remaining: usize, taken: usize) -> Option<usize>
-    ensures { result ≡ state_of n player remaining taken }
-{
-    if n < 2 || n > 44 || player > 1 || remaining > n || taken < 1 || taken > n {
-        return None;
-    }
-    Some(number(n, player, remaining, taken))
+// A player at turn, the matches that remain, and those that were taken last.
+#[derive(Clone, Copy)]
+struct Turn {
+    player: usize,
+    remaining: usize,
+    taken: usize,
 }
 
 impl Nim {
+    // Whether the matches make a game.
+    fn is_playable(&self) -> bool
+        ensures { result ≡ playable self.now.matches }
+    {
+        (2..=44).contains(&self.matches)
+    }
+
+    // Whether the game has the turn.
+    fn has(&self, turn: Turn) -> bool
+        ensures value { result ≡ in_range self.now.matches turn.player turn.remaining turn.taken }
+        ensures possible { result ≡ true → IsTurn self.now.matches turn }
+    {
+        let n = self.matches;
+        self.is_playable()
+            && turn.player <= 1
+            && turn.remaining <= n
+            && (1..=n).contains(&turn.taken)
+    }
+
+    // The number of a turn's state: what was taken last varies fastest, then what remains, then the player.
+    fn number(&self, turn: Turn) -> usize
+        requires { IsTurn self.now.matches turn }
+        ensures { result ≡ number_of self.now.matches turn.player turn.remaining turn.taken }
+    {
+        let n = self.matches;
+        (turn.player * (n + 1) + turn.remaining) * n + turn.taken - 1
+    }
+
     // The number of the state of a player with matches remaining and taken last, at which the game keeps its rules.
+    // Kept: the player is a number, since callers may ask for any, and one that is no player has no state.
     pub fn state(&self, player: usize, remaining: usize, taken: usize) -> Option<usize>
         ensures value { result ≡ state_of self.now.matches player remaining taken }
         ensures stands { Stands self.now.matches player remaining taken result }
         ensures all { EveryState self.now.matches }
     {
-        state_of(self.matches, player, remaining, taken)
+        let turn = Turn {
+            player,
+            remaining,
+            taken,
+        };
+        self.has(turn).then(|| self.number(turn))
+    }
+
+    // The turn that a state is.
+    fn turn(&self, state: usize) -> Option<Turn>
+        ensures value { result ≡ turn_at self.now.matches state }
+        ensures possible { IfSome result (IsTurn self.now.matches) }
+    {
+        let n = self.matches;
+        self.is_state(state).then(|| Turn {
+            player: state / n / (n + 1),
+            remaining: state / n % (n + 1),
+            taken: state % n + 1,
+        })
     }
 
     fn is_state(&self, state: usize) -> bool
@@ -66,7 +104,7 @@ impl Game for Nim {
 
     fn size(&self) -> usize {
         let n = self.matches;
-        if n >= 2 && n <= 44 {
+        if self.is_playable() {
             2 * (n + 1) * n
         } else {
             0
@@ -74,18 +112,22 @@ impl Game for Nim {
     }
 
     fn is_public(&self, state: usize) -> bool {
-        let n = self.matches;
-        self.is_state(state) && state / n / (n + 1) == 1
+        self.turn(state).is_some_and(|turn| turn.player == 1)
     }
 
     fn is_start(&self, state: usize) -> bool {
-        let n = self.matches;
-        self.is_state(state) && state == number(n, 0, n, n)
+        let all = self.matches;
+        self.is_state(state)
+            && state
+                == self.number(Turn {
+                    player: 0,
+                    remaining: all,
+                    taken: all,
+                })
     }
 
     fn is_end(&self, state: usize) -> bool {
-        let n = self.matches;
-        self.is_state(state) && state / n % (n + 1) == 0
+        self.turn(state).is_some_and(|turn| turn.remaining == 0)
     }
 
     fn is_goal(&self, state: usize) -> bool {
@@ -93,17 +135,17 @@ impl Game for Nim {
     }
 
     fn next(&self, state: usize, label: u8) -> Option<usize> {
-        if !self.is_state(state) {
-            return None;
-        }
-        let n = self.matches;
-        let player = state / n / (n + 1);
-        let remaining = state / n % (n + 1);
-        let taken = state % n + 1;
+        let turn = self.turn(state)?;
         let take = usize::from(label);
-        if take < 1 || take >= n || take > remaining || take > 2 * taken {
-            return None;
-        }
-        Some(number(n, 1 - player, remaining - take, take))
+        let allowed = (1..self.matches).contains(&take)
+            && take <= turn.remaining
+            && take <= 2 * turn.taken;
+        allowed.then(|| {
+            self.number(Turn {
+                player: 1 - turn.player,
+                remaining: turn.remaining - take,
+                taken: take,
+            })
+        })
     }
 }

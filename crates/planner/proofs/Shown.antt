@@ -13,7 +13,7 @@ use Rattle.law.specs.Law.{answer}
 use Rattle.law.proofs.Laws.{accepted_plan}
 use Rattle.law.proofs.Checked.{no_fault_sound}
 use Rattle.text.specs.Places.{placed}
-use Rattle.text.proofs.Lines.{line_length, digits_le}
+use Rattle.text.proofs.Lines.{line_le}
 use Rattle.watch.specs.declared.Memory.{Memory}
 use Rattle.watch.specs.Lived.{Lived, entry}
 use Rattle.listing.specs.declared.ListFault.{ListFault}
@@ -36,7 +36,9 @@ put_shown text out p e = ap (λ q. (result_ok q.0, q.1)) e ∙ go (leb (length t
 
 -- no line of a refusal is long
 pub refusal_short : (n a b : ℕ) → n < 2 ^ 64 → a < 2 ^ 64 → b < 2 ^ 64 → length (refusal_line n a b) ≤ longest
-refusal_short n a b hn ha hb = omega (arith, line_length (codes "REFUSED ") n a b, digits_le n hn, digits_le a ha, digits_le b hb)
+refusal_short n a b hn ha hb =
+    let pos : 0 < 20 = omega arith in
+    omega (arith, line_le 20 20 20 (codes "REFUSED ") n a b pos pos pos (omega arith) (omega arith) (omega arith) hn ha hb)
 
 module _ (m : Meaning) (ok : Lawful m) (v : Verdict) (d : Memory) (old : Lived m (entry Plan (Planned v) ∷ []) d) where
   -- a plan that was accepted found no fault

@@ -6,14 +6,12 @@ ghost use Rattle.listing.specs.Lines.{longest};
 ghost use Rattle.planner.specs.Printed.{bytes_text, game_text, printed, refusal_line, shown};
 ghost use Rattle.planner.specs.Told.{Told};
 
-use format::Counts;
 use game::Game;
 use listing::list;
-use sheet::{Move, NO_MOVE, NO_ROW, Row, Sheet};
+use sheet::{Move, NO_MOVE, NO_ROW, Row};
+use tables::{BYTES, MOVES, ROWS};
+use text::{Line, Page};
 use watch::Watch;
-
-// The most bytes of input that are looked at.
-const INPUT: usize = 65536;
 
 // An output of this length has room for whatever is printed.
 pub const ROOM: usize = 53258;
@@ -22,47 +20,28 @@ pub const ROOM: usize = 53258;
 pub fn room() -> usize
     ensures { result ≡ longest }
 {
-    53258
+    ROOM
 }
 
 // Writes the line of a refusal at the front of the output, and answers its length.
+// Kept beside Display, and the refusal as its number: the bytes go into memory that is lent, and their length is known
+// before the first is written. `u64` has no `From<usize>`, as in Rust.
 fn put_refusal(number: u8, first: usize, second: usize, out: &mut [u8]) -> Option<usize>
     ensures value { (result, out.new) ≡ shown (refusal_line number first second) out.old }
     ensures short { length (refusal_line number first second) ≤ 10 + 4096 * 13 }
 {
-    text::put_line(
-        out,
-        0,
-        b"REFUSED ",
-        number as u64,
-        first as u64,
-        second as u64,
-    )
+    let line = Line {
+        lead: b"REFUSED ",
+        numbers: &[u64::from(number), first as u64, second as u64],
+    };
+    Page { out, at: 0 }.put(&line)
 }
 
 // The part of an input that is looked at.
 fn first(input: &[u8]) -> &[u8]
     ensures { result.now ≡ take 65536 input.now }
 {
-    if input.len() > INPUT {
-        &input[0..INPUT]
-    } else {
-        input
-    }
-}
-
-// The sheet in the entries that a reading used.
-fn sheet_of<'a>(counts: Counts, rows: &'a [Row], moves: &'a [Move]) -> Sheet<'a>
-    requires { (counts.states ≤ length rows.now) × (counts.moves ≤ length moves.now) }
-    ensures rows { result.rows.now ≡ take counts.states rows.now }
-    ensures moves { result.moves.now ≡ take counts.moves moves.now }
-{
-    let states = counts.states as usize;
-    let arcs = counts.moves;
-    Sheet {
-        rows: &rows[0..states],
-        moves: &moves[0..arcs],
-    }
+    &input[..BYTES.min(input.len())]
 }
 
 // Plans over a game, and writes the listing or the line of plan's fault.
@@ -73,7 +52,10 @@ fn plan_game<G: Game + Drop>(game: G, out: &mut [u8]) -> Option<usize>
     let mut watch = Watch::new(game);
     match watch.plan() {
         Ok(_) => list(&watch, out).ok(),
-        Err(fault) => put_refusal(fault.number(), fault.state(), fault.label() as usize, out),
+        Err(fault) => {
+            let label = usize::from(fault.label());
+            put_refusal(fault.number(), fault.state(), label, out)
+        }
     }
 }
 
@@ -83,8 +65,8 @@ fn respond_in(bytes: &[u8], rows: &mut [Row], moves: &mut [Move], out: &mut [u8]
     ensures told { Told (length rows.old) (length moves.old) bytes.now (bytes_text (length rows.old) (length moves.old) bytes.now) }
     ensures short { length (bytes_text (length rows.old) (length moves.old) bytes.now) ≤ 10 + 4096 * 13 }
 {
-    match reader::read(bytes, rows, moves) {
-        Ok(counts) => plan_game(sheet_of(counts, rows, moves), out),
+    match tables::open(bytes, rows, moves) {
+        Ok(sheet) => plan_game(sheet, out),
         Err(fault) => put_refusal(fault.number(), fault.index(), fault.offset(), out),
     }
 }
@@ -97,7 +79,7 @@ pub fn respond(input: &[u8], out: &mut [u8]) -> Option<usize>
     ensures told { Told 4096 8192 (take 65536 input.now) (printed input.now) }
     ensures short { length (printed input.now) ≤ 10 + 4096 * 13 }
 {
-    let mut rows = [NO_ROW; 4096];
-    let mut moves = [NO_MOVE; 8192];
+    let mut rows = [NO_ROW; ROWS];
+    let mut moves = [NO_MOVE; MOVES];
     respond_in(first(input), &mut rows, &mut moves, out)
 }

@@ -1,8 +1,7 @@
 -- The tables that the reader fills are those of the sheet.
 
-use Rattle.std.proofs.Common.{◌≡◌, ℕ, zero, suc, ◌+◌, ◌-◌, ◌<◌, ◌≤◌, Bool, true, false, cond, leb, List, [], ◌∷◌, ◌++◌, map, length, get_or, take, drop, set, replicate, None, Ok, Err, Result, sym, refl, ap, ◌∙◌, subst, append_assoc, arith}
-use Rattle.std.specs.List.{AllByRecursion}
-use Rattle.std.proofs.lemmas.List.{set-append_left, get_or_append_left, set_at, take_at, drop_at, drop-replicate, length-replicate, length-set, ext_get_or, length_push}
+use Rattle.std.proofs.Common.{◌≡◌, ℕ, zero, suc, ◌+◌, ◌-◌, ◌<◌, ◌≤◌, true, cond, leb, List, [], ◌∷◌, ◌++◌, map, length, get_or, drop, set, replicate, None, Ok, Err, Result, sym, refl, ap, ◌∙◌, append_assoc, arith}
+use Rattle.std.proofs.lemmas.List.{set_at, drop-replicate, length-replicate, ext_get_or, length_push}
 use Rattle.std.proofs.lemmas.Bool.{cond-true}
 use Rattle.records.specs.declared.SheetFault.{SheetFault}
 use Rattle.records.specs.declared.SheetFault.TheVariants.{Room}
@@ -10,25 +9,18 @@ use Rattle.records.specs.Records.{next}
 use Rattle.sheet.specs.declared.Move.{Move}
 use Rattle.sheet.specs.declared.Row.{Row}
 use Rattle.format.specs.declared.Arc.{Arc}
-use Rattle.format.specs.Format.{State, ArcFits}
+use Rattle.format.specs.Format.{State}
 use Rattle.format.specs.Tables.{move_of, own, lower, placed, counted}
 use Rattle.sheet.specs.Sheets.{zero_row, zero_move}
 use Rattle.format.specs.Reading.{head_size, states_from, moves_from, reading, filled, read_result}
 use Rattle.format.proofs.Fields.{next_ok}
 use Rattle.format.proofs.Whole.{read_encoded, states_here}
+use Rattle.format.proofs.Laws.{exactly, read_inside, unique, writes_back}
+use Rattle.format.proofs.Games.{reads_game}
+use Rattle.format.proofs.Blame.{blamed}
 use Rattle.format.proofs.Tables.{length_placed, length_counted}
-use Rattle.reader.specs.Stored.{Tables, storing, stored, numbered, count_one, more, tables_after, ended}
+use Rattle.reader.specs.Stored.{Tables, storing, stored, numbered, count_one, tables_after, ended}
 use Rattle.reader.proofs.Counts.{counts, length_storing}
-
--- rows that no move reaches stay as they are
-front_rows : (k : ℕ) (st zs : List Row) (ms : List Move) (arcs : List Arc) → AllByRecursion (ArcFits (length st)) arcs → (storing k (st ++ zs) ms arcs).1 ≡ (storing k st ms arcs).1 ++ zs
-front_rows k st zs ms [] f = refl
-front_rows k st zs ms (a ∷ as') f =
-    let s = a.source in
-    let lt = f.0.0 in
-    let e : count_one (st ++ zs) s ≡ count_one st s ++ zs = ap (λ r. set (st ++ zs) s (more r)) (get_or_append_left st zs zero_row s lt) ∙ set-append_left st zs s (more (get_or st s zero_row)) lt in
-    ap (λ rows. (storing (k + 1) rows (set ms k (move_of a)) as').1) e
-    ∙ front_rows (k + 1) (count_one st s) zs (set ms k (move_of a)) as' (subst (λ n. AllByRecursion (ArcFits n) as') (sym (length-set st s (more (get_or st s zero_row)))) f.1)
 
 -- the moves come one after the other
 moves_stored : (rows : List Row) (pre : List Move) (k room : ℕ) (arcs : List Arc) → length pre ≡ k → length arcs ≤ room → ((storing k rows (pre ++ replicate room zero_move) arcs).0 ≡ k + length arcs) × ((storing k rows (pre ++ replicate room zero_move) arcs).2 ≡ pre ++ (map move_of arcs ++ replicate (room - length arcs) zero_move))
@@ -45,12 +37,8 @@ moves_stored rows pre k (suc room) (a ∷ as') l h =
 
 getD_counted : (j : ℕ) (arcs : List Arc) (rows : List Row) (i : ℕ) → i < length rows → get_or (counted j arcs rows) i zero_row ≡ record { flags = (get_or rows i zero_row).flags; place = (get_or rows i zero_row).place; len = (get_or rows i zero_row).len; first = lower (j + i) arcs; count = own (j + i) arcs }
 getD_counted j arcs [] i h = absurd (omega arith)
-getD_counted j arcs (r ∷ rs) zero h = let z : j ≡ j + 0 = omega arith in ap (λ n. record { flags = r.flags; place = r.place; len = r.len; first = lower n arcs; count = own n arcs }) z
-getD_counted j arcs (r ∷ rs) (suc i) h =
-    let z : j + 1 + i ≡ j + suc i = omega arith in
-    let q = get_or rs i zero_row in
-    getD_counted (j + 1) arcs rs i (omega arith)
-    ∙ ap (λ n. record { flags = q.flags; place = q.place; len = q.len; first = lower n arcs; count = own n arcs }) z
+getD_counted j arcs (r ∷ rs) zero h = grind arith
+getD_counted j arcs (r ∷ rs) (suc i) h = let ih = getD_counted (j + 1) arcs rs i (omega arith) in grind arith
 
 uncounted : (at : ℕ) (ss : List State) (i : ℕ) → (get_or (placed at ss) i zero_row).count ≡ 0
 uncounted at [] i = refl
@@ -68,77 +56,40 @@ numbered_counted k rows ms arcs none =
     ext_get_or zero_row (numbered 0 (storing k rows ms arcs).1) (counted 0 arcs rows) (n ∙ sym (length_counted 0 arcs rows))
     (λ i h.
     let lt : i < length rows = omega (arith, h, n) in
-    let q = get_or rows i zero_row in
-    let z : i ≡ 0 + i = omega arith in
-    counts k rows ms arcs none i lt
-    ∙ ap (λ j. record { flags = q.flags; place = q.place; len = q.len; first = lower j arcs; count = own j arcs }) z
-    ∙ sym (getD_counted 0 arcs rows i lt))
+    let z : 0 + i ≡ i = omega arith in
+    counts k rows ms arcs none i lt ∙ sym (rw z at (getD_counted 0 arcs rows i lt)))
 
 module _ (n m : ℕ) (bs : List ℕ) where
   -- the tables that the reader leaves
   left : ℕ → List Row → List Arc → Tables
   left size st arcs =
-      let s = storing 0 (st ++ drop size (replicate n zero_row)) (replicate m zero_move) arcs in
-      (record { states = size; moves = s.0 }, numbered 0 (take size s.1) ++ drop size s.1, s.2)
+      let s = storing 0 st (replicate m zero_move) arcs in
+      (record { states = size; moves = s.0 }, numbered 0 s.1 ++ drop size (replicate n zero_row), s.2)
 
-  whole : (size : ℕ) (st : List Row) (arcs : List Arc) → length st ≡ size → ((i : ℕ) → (get_or st i zero_row).count ≡ 0) → AllByRecursion (ArcFits (length st)) arcs → length arcs ≤ m → ended n m (Ok (left size st arcs)) ≡ filled n m (Ok (st, arcs))
+  whole : (size : ℕ) (st : List Row) (arcs : List Arc) → length st ≡ size → ((i : ℕ) → (get_or st i zero_row).count ≡ 0) → length arcs ≤ m → ended n m (Ok (left size st arcs)) ≡ filled n m (Ok (st, arcs))
   unfolding left
-  whole size st arcs l none f h =
-      let zs = drop size (replicate n zero_row) in
-      let s = storing 0 (st ++ zs) (replicate m zero_move) arcs in
-      let mv = moves_stored (st ++ zs) [] 0 m arcs refl h in
-      let r = (storing 0 st (replicate m zero_move) arcs).1 in
-      let lr : length r ≡ size = length_storing 0 st (replicate m zero_move) arcs ∙ l in
-      let e : s.1 ≡ r ++ zs = front_rows 0 st zs (replicate m zero_move) arcs f in
-      let z : 0 + length arcs ≡ length arcs = omega arith in
-      let zz : zs ≡ replicate (n - size) zero_row = drop-replicate size n zero_row in
-      let rows : numbered 0 (take size s.1) ++ drop size s.1 ≡ counted 0 arcs st ++ replicate (n - length st) zero_row =
-      ap (λ x. numbered 0 (take size x) ++ drop size x) e
-      ∙ ap (λ x. numbered 0 x ++ drop size (r ++ zs)) (take_at r zs size lr)
-      ∙ ap (λ x. numbered 0 r ++ x) (drop_at r zs size lr ∙ zz ∙ ap (λ k. replicate (n - k) zero_row) (sym l))
-      ∙ ap (λ x. x ++ replicate (n - length st) zero_row) (numbered_counted 0 st (replicate m zero_move) arcs none) in
-      ap (λ x. (Ok (record { states = size; moves = x }), numbered 0 (take size s.1) ++ drop size s.1, s.2)) (mv.0 ∙ z)
-      ∙ ap (λ x. (Ok (record { states = size; moves = length arcs }), x, s.2)) rows
-      ∙ ap (λ x. (Ok (record { states = size; moves = length arcs }), counted 0 arcs st ++ replicate (n - length st) zero_row, x)) mv.1
-      ∙ ap (λ x. (Ok (record { states = x; moves = length arcs }), counted 0 arcs st ++ replicate (n - length st) zero_row, map move_of arcs ++ replicate (m - length arcs) zero_move)) (sym l)
+  whole size st arcs l none h =
+      let mv = moves_stored st [] 0 m arcs refl h in
+      let e = numbered_counted 0 st (replicate m zero_move) arcs none in
+      grind (arith, mv, e, drop-replicate)
 
-  moves_end : (h : ℕ × ℕ) (s : List Row × ℕ) (r : Result (List Arc × ℕ) SheetFault) → head_size bs ≡ Ok h → leb h.0 n ≡ true → states_from h.0 bs h.1 1 ≡ Ok s → moves_from m h.0 None bs s.1 0 ≡ r → ended n m (next (stored 0 (s.0 ++ drop h.0 (replicate n zero_row)) (replicate m zero_move) r) (λ t. Ok (record { states = h.0; moves = t.0 }, numbered 0 (take h.0 t.1) ++ drop h.0 t.1, t.2))) ≡ filled n m (next r (λ a. Ok (s.0, a.0)))
-  unfolding left
-  moves_end h s (Err e) eh et es em = refl
-  moves_end h s (Ok a) eh et es em =
+  read_left : (h : ℕ × ℕ) (s : List Row × ℕ) (a : List Arc × ℕ) → head_size bs ≡ Ok h → leb h.0 n ≡ true → states_from h.0 bs h.1 1 ≡ Ok s → moves_from m h.0 None bs s.1 0 ≡ Ok a → ended n m (Ok (left h.0 s.0 a.0)) ≡ filled n m (Ok (s.0, a.0))
+  read_left h s a eh et es em =
       let rd : reading n m bs ≡ Ok (s.0, a.0) = next_ok _ eh ∙ cond-true (leb h.0 n) _ _ et ∙ next_ok (λ q. next (moves_from m h.0 None bs q.1 0) (λ y. Ok (q.0, y.0))) es ∙ next_ok (λ y. Ok (s.0, y.0)) em in
       let t = read_encoded n m bs s.0 a.0 rd in
       let ss = states_here bs h.0 h.1 1 s.0 s.1 es in
       let l : length s.0 ≡ h.0 = ap length ss.2 ∙ length_placed h.1 ss.0 ∙ ss.1 in
-      let l2 : length s.0 ≡ length t.0.states = ap length t.2 ∙ length_placed 5 t.0.states in
       let none : (i : ℕ) → (get_or s.0 i zero_row).count ≡ 0 = λ i. ap (λ x. (get_or x i zero_row).count) t.2 ∙ uncounted 5 t.0.states i in
-      let f : AllByRecursion (ArcFits (length s.0)) a.0 = subst (λ k. AllByRecursion (ArcFits k) a.0) (sym l2) (subst (λ (x : List Arc). AllByRecursion (ArcFits (length t.0.states)) x) (sym t.3) t.1.0.3) in
       let few : length a.0 ≤ m = (let q = t.1.3 in omega (arith, q, ap length t.3)) in
-      whole h.0 s.0 a.0 l none f few
+      whole h.0 s.0 a.0 l none few
 
-  states_end : (h : ℕ × ℕ) (r : Result (List Row × ℕ) SheetFault) → head_size bs ≡ Ok h → leb h.0 n ≡ true → states_from h.0 bs h.1 1 ≡ r → ended n m (next r (λ s. next (stored 0 (s.0 ++ drop h.0 (replicate n zero_row)) (replicate m zero_move) (moves_from m h.0 None bs s.1 0)) (λ t. Ok (record { states = h.0; moves = t.0 }, numbered 0 (take h.0 t.1) ++ drop h.0 t.1, t.2)))) ≡ filled n m (next r (λ s. next (moves_from m h.0 None bs s.1 0) (λ a. Ok (s.0, a.0))))
-  states_end h (Err e) eh et es = refl
-  states_end h (Ok s) eh et es = moves_end h s (moves_from m h.0 None bs s.1 0) eh et es refl
-
-  room_end : (h : ℕ × ℕ) (b : Bool) → head_size bs ≡ Ok h → leb h.0 n ≡ b → ended n m (cond b (next (states_from h.0 bs h.1 1) (λ s. next (stored 0 (s.0 ++ drop h.0 (replicate n zero_row)) (replicate m zero_move) (moves_from m h.0 None bs s.1 0)) (λ t. Ok (record { states = h.0; moves = t.0 }, numbered 0 (take h.0 t.1) ++ drop h.0 t.1, t.2)))) (Err (Room 0 0))) ≡ filled n m (cond b (next (states_from h.0 bs h.1 1) (λ s. next (moves_from m h.0 None bs s.1 0) (λ a. Ok (s.0, a.0)))) (Err (Room 0 0)))
-  room_end h true eh eb = states_end h (states_from h.0 bs h.1 1) eh eb refl
-  room_end h false eh eb = refl
-
-  -- the reader's own word for what it fills, at the lengths of its tables
-  within : ℕ → ℕ → ℕ × ℕ → Result Tables SheetFault
-  within rows ms h =
-      cond (leb h.0 rows)
-      (next (states_from h.0 bs h.1 1) (λ s. next (stored 0 (s.0 ++ drop h.0 (replicate n zero_row)) (replicate m zero_move) (moves_from ms h.0 None bs s.1 0)) (λ t. Ok (record { states = h.0; moves = t.0 }, numbered 0 (take h.0 t.1) ++ drop h.0 t.1, t.2))))
-      (Err (Room 0 0))
-
-  head_end : (r : Result (ℕ × ℕ) SheetFault) → head_size bs ≡ r → ended n m (next r (within n m)) ≡ filled n m (next r (λ h. cond (leb h.0 n) (next (states_from h.0 bs h.1 1) (λ s. next (moves_from m h.0 None bs s.1 0) (λ a. Ok (s.0, a.0)))) (Err (Room 0 0))))
-  unfolding within
-  head_end (Err e) eh = refl
-  head_end (Ok h) eh = room_end h (leb h.0 n) eh refl
+  -- a refusal of any part is that of the whole, and what all parts read fills the tables
+  parted : (n' m' : ℕ) (r : Result (ℕ × ℕ) SheetFault) (ss : ℕ × ℕ → Result (List Row × ℕ) SheetFault) (as' : ℕ → ℕ × ℕ → List Row × ℕ → Result (List Arc × ℕ) SheetFault) → n' ≡ n → m' ≡ m → ((h : ℕ × ℕ) (s : List Row × ℕ) (a : List Arc × ℕ) → r ≡ Ok h → leb h.0 n ≡ true → ss h ≡ Ok s → as' m h s ≡ Ok a → ended n m (Ok (left h.0 s.0 a.0)) ≡ filled n m (Ok (s.0, a.0))) → ended n m (next r (λ h. cond (leb h.0 n') (next (ss h) (λ s. next (stored 0 s.0 (replicate m zero_move) (as' m' h s)) (λ t. Ok (record { states = h.0; moves = t.0 }, numbered 0 t.1 ++ drop h.0 (replicate n zero_row), t.2)))) (Err (Room 0 0)))) ≡ filled n m (next r (λ h. cond (leb h.0 n) (next (ss h) (λ s. next (as' m h s) (λ a. Ok (s.0, a.0)))) (Err (Room 0 0))))
+  unfolding left
+  parted n' m' r ss as' en em k = grind (arith, k)
 
   pub closed : ended n m (tables_after (replicate n zero_row) (replicate m zero_move) bs) ≡ read_result n m bs
-  unfolding within
-  closed =
-      ap (λ k. ended n m (next (head_size bs) (within k (length (replicate m zero_move))))) (length-replicate n zero_row)
-      ∙ ap (λ k. ended n m (next (head_size bs) (within n k))) (length-replicate m zero_move)
-      ∙ head_end (head_size bs) refl
+  closed = parted (length (replicate n zero_row)) (length (replicate m zero_move)) (head_size bs) (λ h. states_from h.0 bs h.1 1) (λ room h s. moves_from room h.0 None bs s.1 0) (length-replicate n zero_row) (length-replicate m zero_move) read_left
+
+-- what a reading promises by its one equality
+pub ruleset read_laws = (exactly, read_inside, reads_game, blamed, unique, writes_back)

@@ -1,6 +1,6 @@
 -- Words for the reader's inner functions: how the tables fill. What a reading leaves in the end is said without them.
 
-use Rattle.std.specs.Prelude.{ℕ, ◌+◌, ◌<◌, cond, List, [], ◌∷◌, ◌++◌, length, take, drop, replicate, Some, None, Ok, Err, Option, Result, nat_le, slice_index_or, slice_set}
+use Rattle.std.specs.Prelude.{ℕ, ◌+◌, ◌<◌, cond, List, [], ◌∷◌, ◌++◌, length, drop, replicate, Some, None, Ok, Err, Option, Result, nat_le, slice_index_or, slice_set}
 use Rattle.records.specs.declared.SheetFault.{SheetFault}
 use Rattle.records.specs.declared.SheetFault.TheVariants.{Room}
 use Rattle.records.specs.Records.{next}
@@ -77,8 +77,8 @@ tables_after rows ms bs =
     next (head_size bs)
     (λ h. cond (nat_le h.0 (length rows))
     (next (states_from h.0 bs h.1 1)
-    (λ s. next (stored 0 (s.0 ++ drop h.0 rows) ms (moves_from (length ms) h.0 None bs s.1 0))
-    (λ m. Ok (record { states = h.0; moves = m.0 }, numbered 0 (take h.0 m.1) ++ drop h.0 m.1, m.2))))
+    (λ s. next (stored 0 s.0 ms (moves_from (length ms) h.0 None bs s.1 0))
+    (λ m. Ok (record { states = h.0; moves = m.0 }, numbered 0 m.1 ++ drop h.0 rows, m.2))))
     (Err (Room 0 0)))
 
 -- the same once a refusal has cleared the tables

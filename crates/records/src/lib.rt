@@ -2,12 +2,14 @@
 // and the faults of a reading in three layers.
 #![tactic(auto)]
 
-ghost use Rattle.std.specs.Prelude.{◌≡◌, ◌+◌, ◌<◌, ◌≤◌, length, IfOk, OnOk};
+ghost use Rattle.std.specs.Prelude.{◌≡◌, ◌+◌, ◌<◌, ◌≤◌, length, is_ok, IfOk, OnOk};
 ghost use Rattle.records.specs.Faults.{number_of, layer_of, index_of, offset_of};
-ghost use Rattle.records.specs.Fields.{byte_at, u16_at, u32_at, part_at, shown_part, judged, within, below, are_flags, is_printable, all_printable};
+ghost use Rattle.records.specs.Fields.{byte_at, u16_at, u32_at, part_at, shown_part, judged, are_flags, is_printable, all_printable};
 ghost use Rattle.records.specs.Records.{head_at, state_at, move_at, end_at, record_at, shown_read};
 ghost use Rattle.records.specs.declared.RecordFault.TheVariants.{Byte};
 ghost use Rattle.records.specs.declared.SheetFault.TheVariants.{Record};
+
+mod display;
 
 // The marks that records begin with.
 pub const HEAD_MARK: &[u8; 2] = b"SH";
@@ -17,6 +19,13 @@ pub const STATE_MARK: &[u8; 2] = b"ST";
 pub const MOVE_MARK: &[u8; 2] = b"MV";
 
 pub const END_MARK: &[u8; 2] = b"ZZ";
+
+// The most states of a sheet, the most bytes of a state's name, and what labels lie below.
+pub const STATES: u16 = 4096;
+
+pub const NAME: u8 = 16;
+
+pub const LABELS: u8 = 64;
 
 // The bits that a state's flags may have.
 const FLAGS: u8 = 0x0f;
@@ -36,6 +45,7 @@ pub enum RecordFault {
     Field { index: usize, offset: usize },
 }
 
+// Kept with record and offset in each case: callers and definitions match both by name.
 // A sheet that cannot be read: a record that cannot, a move not above the last, a wrong number of moves,
 // bytes after the end, or a table too short.
 #[derive(Clone, Copy, PartialEq, Eq, Debug)]
@@ -97,88 +107,120 @@ impl SheetFault {
         }
     }
 
+    // The record at fault, counted from 0, and where in the input the fault lies.
+    fn place(&self) -> (usize, usize)
+        ensures { result ≡ (index_of self.now, offset_of self.now) }
+    {
+        match *self {
+            SheetFault::Record(RecordFault::Byte(ByteFault { index, offset }))
+            | SheetFault::Record(RecordFault::Mark { index, offset })
+            | SheetFault::Record(RecordFault::Field { index, offset })
+            | SheetFault::Order { index, offset }
+            | SheetFault::Count { index, offset }
+            | SheetFault::Excess { index, offset }
+            | SheetFault::Room { index, offset } => (index, offset),
+        }
+    }
+
     // The record at fault, counted from 0.
     pub fn index(&self) -> usize
         ensures { result ≡ index_of self.now }
     {
-        match *self {
-            SheetFault::Record(RecordFault::Byte(b)) => b.index,
-            SheetFault::Record(RecordFault::Mark { index, .. }) => index,
-            SheetFault::Record(RecordFault::Field { index, .. }) => index,
-            SheetFault::Order { index, .. } => index,
-            SheetFault::Count { index, .. } => index,
-            SheetFault::Excess { index, .. } => index,
-            SheetFault::Room { index, .. } => index,
-        }
+        self.place().0
     }
 
     // Where in the input the fault lies.
     pub fn offset(&self) -> usize
         ensures { result ≡ offset_of self.now }
     {
-        match *self {
-            SheetFault::Record(RecordFault::Byte(b)) => b.offset,
-            SheetFault::Record(RecordFault::Mark { offset, .. }) => offset,
-            SheetFault::Record(RecordFault::Field { offset, .. }) => offset,
-            SheetFault::Order { offset, .. } => offset,
-            SheetFault::Count { offset, .. } => offset,
-            SheetFault::Excess { offset, .. } => offset,
-            SheetFault::Room { offset, .. } => offset,
+        self.place().1
+    }
+}
+
+// A place in the input, where the mark or a field of the record `index` begins.
+#[derive(Clone, Copy)]
+struct Spot<'a> {
+    bytes: &'a [u8],
+    at: usize,
+    index: usize,
+}
+
+impl<'a> Spot<'a> {
+    // The place `by` bytes behind this one.
+    fn further(self, by: usize) -> Spot<'a>
+        requires { self.at + by ≤ length self.bytes.now }
+        ensures { result ≡ record self.entry { at = self.entry.at + by } }
+    {
+        Spot {
+            at: self.at + by,
+            ..self
+        }
+    }
+
+    // The `len` bytes here.
+    fn part(self, len: usize) -> Result<&'a [u8], ByteFault>
+        ensures { shown_part result (λ x. x.now) ≡ part_at len self.entry.bytes.now self.entry.at self.entry.index }
+    {
+        self.bytes
+            .get(self.at..)
+            .and_then(|rest| rest.get(..len))
+            .ok_or(ByteFault {
+                index: self.index,
+                offset: self.at,
+            })
+    }
+
+    // The byte here.
+    fn byte(self) -> Result<u8, ByteFault>
+        ensures { result ≡ byte_at self.entry.bytes.now self.entry.at self.entry.index }
+    {
+        Ok(self.part(1)?[0])
+    }
+
+    // The number in the two bytes here, low byte first.
+    fn two_bytes(self) -> Result<u16, ByteFault>
+        ensures { result ≡ u16_at self.entry.bytes.now self.entry.at self.entry.index }
+    {
+        let part = self.part(2)?;
+        Ok(u16::from_le_bytes([part[0], part[1]]))
+    }
+
+    // The number in the four bytes here, low byte first.
+    // Kept beside `two_bytes`: no trait of std has both types' `from_le_bytes`, and one of our own is longer, since an array of
+    // a length by a parameter stands in no variant.
+    fn four_bytes(self) -> Result<u32, ByteFault>
+        ensures { result ≡ u32_at self.entry.bytes.now self.entry.at self.entry.index }
+    {
+        let part = self.part(4)?;
+        Ok(u32::from_le_bytes([part[0], part[1], part[2], part[3]]))
+    }
+
+    // The field here: first taken, and then judged.
+    fn field<T: Copy, R: FnOnce(Spot<'a>) -> Result<T, ByteFault>, F: FnOnce(T) -> bool>(
+        self,
+        take: R,
+        good: F,
+    ) -> Result<T, RecordFault>
+        requires taken { R.pre take self }
+        requires judged { F.IsAlwaysCallable good }
+        ensures { (t : _) × R.post take self.entry t
+            × (result ≡ judged (λ _. is_ok result) self.entry.at self.entry.index t)
+            × IfOk t (λ v. F.post good v (is_ok result)) }
+    {
+        let v = take(self)?;
+        if good(v) {
+            Ok(v)
+        } else {
+            Err(RecordFault::Field {
+                index: self.index,
+                offset: self.at,
+            })
         }
     }
 }
 
-// The byte at `at`.
-fn byte(bytes: &[u8], at: usize, index: usize) -> Result<u8, ByteFault>
-    ensures value { result ≡ byte_at bytes.now at index }
-    ensures inside { OnOk result (at + 1 ≤ length bytes.now) }
-{
-    if at < bytes.len() {
-        Ok(bytes[at])
-    } else {
-        Err(ByteFault { index, offset: at })
-    }
-}
-
-// The number in the two bytes at `at`, low byte first.
-fn two_bytes(bytes: &[u8], at: usize, index: usize) -> Result<u16, ByteFault>
-    ensures value { result ≡ u16_at bytes.now at index }
-    ensures inside { OnOk result (at + 2 ≤ length bytes.now) }
-{
-    if at < bytes.len() && 2 <= bytes.len() - at {
-        Ok(bytes[at] as u16 + 256 * (bytes[at + 1] as u16))
-    } else {
-        Err(ByteFault { index, offset: at })
-    }
-}
-
-// The number in the four bytes at `at`, low byte first.
-fn four_bytes(bytes: &[u8], at: usize, index: usize) -> Result<u32, ByteFault>
-    ensures value { result ≡ u32_at bytes.now at index }
-    ensures inside { OnOk result (at + 4 ≤ length bytes.now) }
-{
-    if at < bytes.len() && 4 <= bytes.len() - at {
-        let low = bytes[at] as u32 + 256 * (bytes[at + 1] as u32);
-        let high = bytes[at + 2] as u32 + 256 * (bytes[at + 3] as u32);
-        Ok(low + 65536 * high)
-    } else {
-        Err(ByteFault { index, offset: at })
-    }
-}
-
-// The `len` bytes at `at`.
-fn part<'a>(bytes: &'a [u8], at: usize, len: usize, index: usize) -> Result<&'a [u8], ByteFault>
-    ensures value { shown_part result (λ x. x.now) ≡ part_at len bytes.now at index }
-    ensures inside { OnOk result (at + len ≤ length bytes.now) }
-{
-    if at <= bytes.len() && len <= bytes.len() - at {
-        Ok(&bytes[at..at + len])
-    } else {
-        Err(ByteFault { index, offset: at })
-    }
-}
-
 // Whether only the four known flags are set.
+// Kept as a mask: a rule of the project.
 pub fn known_flags(flags: u8) -> bool
     ensures { result ≡ are_flags flags }
 {
@@ -189,10 +231,11 @@ pub fn known_flags(flags: u8) -> bool
 fn is_printable(b: u8) -> bool
     ensures { result ≡ is_printable b }
 {
-    0x20 <= b && b <= 0x7e
+    matches!(b, 0x20..=0x7e)
 }
 
 // Whether a name has printable bytes only.
+// Kept as a loop that judges each byte: a rule of the project.
 pub fn printable(name: &[u8]) -> bool
     ensures { result ≡ all_printable name.now }
 {
@@ -202,71 +245,6 @@ pub fn printable(name: &[u8]) -> bool
         }
     }
     true
-}
-
-// The byte at `at`, taken and then judged.
-fn byte_in(bytes: &[u8], at: usize, index: usize, low: u8, high: u8) -> Result<u8, RecordFault>
-    ensures value { result ≡ judged (within low high) at index (byte_at bytes.now at index) }
-    ensures inside { IfOk result (λ v. (at + 1 ≤ length bytes.now) × (low ≤ v) × (v ≤ high)) }
-{
-    let v = byte(bytes, at, index)?;
-    if v < low || high < v {
-        return Err(RecordFault::Field { index, offset: at });
-    }
-    Ok(v)
-}
-
-// The flags at `at`, taken and then judged.
-fn flags_in(bytes: &[u8], at: usize, index: usize) -> Result<u8, RecordFault>
-    ensures value { result ≡ judged are_flags at index (byte_at bytes.now at index) }
-    ensures inside { OnOk result (at + 1 ≤ length bytes.now) }
-{
-    let flags = byte(bytes, at, index)?;
-    if !known_flags(flags) {
-        return Err(RecordFault::Field { index, offset: at });
-    }
-    Ok(flags)
-}
-
-// The number of states in the two bytes at `at`, taken and then judged.
-fn size_in(bytes: &[u8], at: usize, index: usize) -> Result<u16, RecordFault>
-    ensures value { result ≡ judged (within 1 4096) at index (u16_at bytes.now at index) }
-    ensures inside { IfOk result (λ v. (at + 2 ≤ length bytes.now) × (1 ≤ v) × (v ≤ 4096)) }
-{
-    let size = two_bytes(bytes, at, index)?;
-    if size < 1 || size > 4096 {
-        return Err(RecordFault::Field { index, offset: at });
-    }
-    Ok(size)
-}
-
-// The number of a state in the two bytes at `at`, taken and then judged.
-fn state_in(bytes: &[u8], at: usize, index: usize, size: u16) -> Result<u16, RecordFault>
-    ensures value { result ≡ judged (below size) at index (u16_at bytes.now at index) }
-    ensures inside { IfOk result (λ v. (at + 2 ≤ length bytes.now) × (v < size)) }
-{
-    let v = two_bytes(bytes, at, index)?;
-    if v >= size {
-        return Err(RecordFault::Field { index, offset: at });
-    }
-    Ok(v)
-}
-
-// The name of `len` bytes at `at`, taken and then judged.
-fn name_in<'a>(
-    bytes: &'a [u8],
-    at: usize,
-    index: usize,
-    len: usize,
-) -> Result<&'a [u8], RecordFault>
-    ensures value { shown_part result (λ x. x.now) ≡ judged all_printable at index (part_at len bytes.now at index) }
-    ensures inside { OnOk result (at + len ≤ length bytes.now) }
-{
-    let name = part(bytes, at, len, index)?;
-    if !printable(name) {
-        return Err(RecordFault::Field { index, offset: at });
-    }
-    Ok(name)
 }
 
 // A record that has been read. A state's name is part of the input, from `place` on.
@@ -291,6 +269,7 @@ pub enum Record<'a> {
 }
 
 // The records that may stand at a place: the first, a state's, or those after the states of a sheet of `size`.
+// Kept: take_record is public and takes it, and which record was read is asked of it once more by its caller.
 #[derive(Clone, Copy)]
 pub enum Expect {
     Head,
@@ -298,74 +277,62 @@ pub enum Expect {
     Tail { size: u16 },
 }
 
-// The first record, whose mark is at `at`: version and number of states.
-fn head_record<'a>(
-    bytes: &'a [u8],
-    at: usize,
-    index: usize,
-) -> Result<(Record<'a>, usize), RecordFault>
-    requires { at + 2 ≤ length bytes.now }
-    ensures value { shown_read result ≡ head_at bytes.now at index }
-    ensures inside { IfOk result (λ p. (at < p.1) × (p.1 ≤ length bytes.now)) }
+// Kept in the contracts of four records: that the mark was taken. A type of its own for such a place is longer.
+
+// The first record, whose mark is at `mark`: version and number of states.
+fn head_record<'a>(mark: Spot<'a>) -> Result<(Record<'a>, usize), RecordFault>
+    requires { mark.at + 2 ≤ length mark.bytes.now }
+    ensures { shown_read result ≡ head_at mark.entry.bytes.now mark.entry.at mark.entry.index }
 {
-    let _version = byte_in(bytes, at + 2, index, 1, 1)?;
-    let size = size_in(bytes, at + 3, index)?;
-    Ok((Record::Head { size }, at + 5))
+    let _version = mark.further(2).field(Spot::byte, |v| v == 1)?;
+    let size = mark
+        .further(3)
+        .field(Spot::two_bytes, |v| (1..=STATES).contains(&v))?;
+    Ok((Record::Head { size }, mark.at + 5))
 }
 
-// A state's record, whose mark is at `at`: flags, length of the name, name.
-fn state_record<'a>(
-    bytes: &'a [u8],
-    at: usize,
-    index: usize,
-) -> Result<(Record<'a>, usize), RecordFault>
-    requires { at + 2 ≤ length bytes.now }
-    ensures value { shown_read result ≡ state_at bytes.now at index }
-    ensures inside { IfOk result (λ p. (at < p.1) × (p.1 ≤ length bytes.now)) }
+// A state's record, whose mark is at `mark`: flags, length of the name, name.
+fn state_record<'a>(mark: Spot<'a>) -> Result<(Record<'a>, usize), RecordFault>
+    requires { mark.at + 2 ≤ length mark.bytes.now }
+    ensures { shown_read result ≡ state_at mark.entry.bytes.now mark.entry.at mark.entry.index }
 {
-    let flags = flags_in(bytes, at + 2, index)?;
-    let len = byte_in(bytes, at + 3, index, 0, 16)?;
-    let place = at + 4;
-    let name = name_in(bytes, place, index, len as usize)?;
-    Ok((Record::State { flags, place, name }, place + len as usize))
+    let flags = mark.further(2).field(Spot::byte, known_flags)?;
+    let len = mark.further(3).field(Spot::byte, |v| v <= NAME)?;
+    let place = mark.at + 4;
+    let name = mark
+        .further(4)
+        .field(|spot| spot.part(usize::from(len)), printable)?;
+    Ok((
+        Record::State { flags, place, name },
+        place + usize::from(len),
+    ))
 }
 
-// A move's record, whose mark is at `at`: source, label, target.
-fn move_record<'a>(
-    bytes: &'a [u8],
-    at: usize,
-    index: usize,
-    size: u16,
-) -> Result<(Record<'a>, usize), RecordFault>
-    requires { at + 2 ≤ length bytes.now }
-    ensures value { shown_read result ≡ move_at size bytes.now at index }
-    ensures inside { IfOk result (λ p. (at < p.1) × (p.1 ≤ length bytes.now)) }
+// A move's record, whose mark is at `mark`: source, label, target.
+fn move_record<'a>(mark: Spot<'a>, size: u16) -> Result<(Record<'a>, usize), RecordFault>
+    requires { mark.at + 2 ≤ length mark.bytes.now }
+    ensures { shown_read result ≡ move_at size mark.entry.bytes.now mark.entry.at mark.entry.index }
 {
-    let source = state_in(bytes, at + 2, index, size)?;
-    let label = byte_in(bytes, at + 4, index, 0, 63)?;
-    let target = state_in(bytes, at + 5, index, size)?;
+    let source = mark.further(2).field(Spot::two_bytes, |v| v < size)?;
+    let label = mark.further(4).field(Spot::byte, |v| v < LABELS)?;
+    let target = mark.further(5).field(Spot::two_bytes, |v| v < size)?;
     Ok((
         Record::Move {
             source,
             label,
             target,
         },
-        at + 7,
+        mark.at + 7,
     ))
 }
 
-// The last record, whose mark is at `at`: the number of moves, which may be any.
-fn end_record<'a>(
-    bytes: &'a [u8],
-    at: usize,
-    index: usize,
-) -> Result<(Record<'a>, usize), RecordFault>
-    requires { at + 2 ≤ length bytes.now }
-    ensures value { shown_read result ≡ end_at bytes.now at index }
-    ensures inside { IfOk result (λ p. (at < p.1) × (p.1 ≤ length bytes.now)) }
+// The last record, whose mark is at `mark`: the number of moves, which may be any.
+fn end_record<'a>(mark: Spot<'a>) -> Result<(Record<'a>, usize), RecordFault>
+    requires { mark.at + 2 ≤ length mark.bytes.now }
+    ensures { shown_read result ≡ end_at mark.entry.bytes.now mark.entry.at mark.entry.index }
 {
-    let count = four_bytes(bytes, at + 2, index)?;
-    Ok((Record::End { count }, at + 6))
+    let count = mark.further(2).four_bytes()?;
+    Ok((Record::End { count }, mark.at + 6))
 }
 
 // The record at `at`, if its mark may stand there, and where the next one begins.
@@ -378,14 +345,13 @@ pub fn take_record<'a>(
     ensures value { shown_read result ≡ record_at expect bytes.now at index }
     ensures inside { IfOk result (λ p. (at < p.1) × (p.1 ≤ length bytes.now)) }
 {
-    let mark = part(bytes, at, 2, index)?;
+    let spot = Spot { bytes, at, index };
+    let mark = spot.part(2)?;
     match expect {
-        Expect::Head if mark == HEAD_MARK.as_slice() => head_record(bytes, at, index),
-        Expect::State if mark == STATE_MARK.as_slice() => state_record(bytes, at, index),
-        Expect::Tail { size } if mark == MOVE_MARK.as_slice() => move_record(
-            bytes, at, index, size,
-        ),
-        Expect::Tail { .. } if mark == END_MARK.as_slice() => end_record(bytes, at, index),
+        Expect::Head if mark == HEAD_MARK.as_slice() => head_record(spot),
+        Expect::State if mark == STATE_MARK.as_slice() => state_record(spot),
+        Expect::Tail { size } if mark == MOVE_MARK.as_slice() => move_record(spot, size),
+        Expect::Tail { .. } if mark == END_MARK.as_slice() => end_record(spot),
         _ => Err(RecordFault::Mark { index, offset: at }),
     }
 }

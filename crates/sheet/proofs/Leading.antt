@@ -1,9 +1,11 @@
 -- The state behind a label is the target of the first move with that label.
-use Rattle.std.proofs.Common.{◌≡◌, ℕ, zero, suc, ◌+◌, ◌<◌, Bool, true, false, cond, ◌&&◌, eqb, ltb, leb, List, [], ◌∷◌, length, get_or, take, drop, Some, None, Option, sym, refl, ap, ◌∙◌, subst, ⊎_elim, arith, length-drop, length-take}
+use Rattle.std.proofs.Common.{◌≡◌, ℕ, zero, suc, ◌+◌, ◌<◌, Bool, true, false, cond, ◌&&◌, eqb, ltb, leb, List, [], ◌∷◌, length, get_or, take, drop, Some, Option, sym, refl, ap, ◌∙◌, ⊎_elim, arith, length-drop, length-take}
 use Rattle.std.proofs.lemmas.List.{get_or-take, get_or-drop}
 use Rattle.std.proofs.lemmas.Bool.{eq-eqb, ne_eqb, eqb-true, eqb-false, ltb-true, lt-ltb, leb-true, le-leb, and_parts, and_from, cases_Bool, cond-true, cond-false}
+use Rattle.std.proofs.lemmas.Option.{none-some}
 use Rattle.sheet.specs.declared.Row.{Row}
 use Rattle.sheet.specs.declared.Move.{Move}
+use Rattle.sheet.specs.SheetLaws.{under, under_below}
 use Rattle.sheet.specs.Sheets.{zero_row, zero_move, target_of, moves_of, below, sheet_next, Leads, NextIs}
 
 -- the move at `place` is the first with the label, and its target is t
@@ -28,7 +30,7 @@ later l v vs t ne f = record {
     before (suc i) h e = f.first i (omega arith) e
 
 found_first : (l : ℕ) (vs : List Move) (t : ℕ) → target_of l vs ≡ Some t → First l vs t
-found_first l [] t h = let z : ◌≡◌ {A = ℕ} 0 1 = cc in absurd (omega arith)
+found_first l [] t h = absurd (none-some t h)
 found_first l (v ∷ vs) t h =
     ⊎_elim
     (λ here.
@@ -48,18 +50,10 @@ first_found l [] t i h e to before = absurd (omega arith)
 first_found l (v ∷ vs) t zero h e to before = cond-true _ _ _ (eq-eqb v.label l e) ∙ ap Some to
 first_found l (v ∷ vs) t (suc i) h e to before = cond-false _ _ _ (ne_eqb v.label l (before 0 (omega arith))) ∙ first_found l vs t i (omega arith) e to (λ k lt. before (suc k) (omega arith))
 
--- a value under a test
-under : (b : Bool) (o : Option ℕ) (t : ℕ) → cond b o None ≡ Some t → (b ≡ true) × (o ≡ Some t)
-under true o t h = (refl, h)
-under false o t h = let z : ◌≡◌ {A = ℕ} 0 1 = cc in absurd (omega arith)
-
-under_below : (n t : ℕ) (o : Option ℕ) → below n o ≡ Some t → (o ≡ Some t) × (t < n)
-under_below n t None h = let z : ◌≡◌ {A = ℕ} 0 1 = cc in absurd (omega arith)
-under_below n t (Some u) h = let p = under (ltb u n) (Some u) t h in let same : u ≡ t = cc in (p.1, subst (λ (x : ℕ). x < n) same (ltb-true u n p.0))
-
+-- a row that reaches outside has no moves
 under_moves : (b : Bool) (l : ℕ) (vs : List Move) (t : ℕ) → target_of l (cond b vs []) ≡ Some t → (b ≡ true) × (target_of l vs ≡ Some t)
 under_moves true l vs t h = (refl, h)
-under_moves false l vs t h = let z : ◌≡◌ {A = ℕ} 0 1 = cc in absurd (omega arith)
+under_moves false l vs t h = absurd (none-some t h)
 
 module _ (rows : List Row) (moves : List Move) (s l : ℕ) where
   abbrev row : Row

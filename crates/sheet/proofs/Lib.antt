@@ -1,2 +1,1 @@
-pub mod Targets
 pub mod Leading

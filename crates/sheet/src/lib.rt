@@ -46,49 +46,45 @@ pub struct Sheet<'a> {
 }
 
 // The flags of a row; its other bits mean nothing.
-const PUBLIC: u8 = 1;
+pub const PUBLIC: u8 = 1;
 
-const START: u8 = 2;
+pub const START: u8 = 2;
 
-const END: u8 = 4;
+pub const END: u8 = 4;
 
-const GOAL: u8 = 8;
-
-fn has_flag(rows: &[Row], flag: u8, state: usize) -> bool
-    ensures { result ≡ has_flag rows.now flag state }
-{
-    state < rows.len() && rows[state].flags & flag == flag
-}
+pub const GOAL: u8 = 8;
 
 // The target of the first move with the label.
 fn target_of(moves: &[Move], label: u8) -> Option<u16>
     ensures { result ≡ target_of label moves.now }
 {
-    for entry in moves {
-        if entry.label == label {
-            return Some(entry.target);
-        }
-    }
-    None
+    moves
+        .iter()
+        .find(|entry| entry.label == label)
+        .map(|entry| entry.target)
 }
 
-// The state behind a label, looked for among the row's moves only.
-fn next(rows: &[Row], moves: &[Move], state: usize, label: u8) -> Option<usize>
-    ensures { result ≡ sheet_next rows.now moves.now state label }
-{
-    if state >= rows.len() || label >= <Sheet<'_> as Game>::CEILING {
-        return None;
+impl Sheet<'_> {
+    fn has_flag(&self, flag: u8, state: usize) -> bool
+        ensures { result ≡ has_flag self.now.rows.now flag state }
+    {
+        self.rows
+            .get(state)
+            .is_some_and(|row| row.flags & flag == flag)
     }
-    let Row { first, count, .. } = rows[state];
-    // A sum that could overflow is no test of whether the row reaches outside.
-    if first > moves.len() || count > moves.len() - first {
-        return None;
-    }
-    let target = usize::from(target_of(&moves[first..first + count], label)?);
-    if target < rows.len() {
-        Some(target)
-    } else {
-        None
+
+    // The state behind a label, looked for among the row's moves only.
+    fn state_behind(&self, state: usize, label: u8) -> Option<usize>
+        ensures { result ≡ sheet_next self.now.rows.now self.now.moves.now state label }
+    {
+        if label >= Self::CEILING {
+            return None;
+        }
+        let row = self.rows.get(state)?;
+        let rest = self.moves.get(row.first..)?;
+        let own = rest.get(..row.count)?;
+        let target = usize::from(target_of(own, label)?);
+        (target < self.rows.len()).then_some(target)
     }
 }
 
@@ -108,25 +104,25 @@ impl Game for Sheet<'_> {
     }
 
     fn is_public(&self, state: usize) -> bool {
-        has_flag(self.rows, PUBLIC, state)
+        self.has_flag(PUBLIC, state)
     }
 
     fn is_start(&self, state: usize) -> bool {
-        has_flag(self.rows, START, state)
+        self.has_flag(START, state)
     }
 
     fn is_end(&self, state: usize) -> bool {
-        has_flag(self.rows, END, state)
+        self.has_flag(END, state)
     }
 
     fn is_goal(&self, state: usize) -> bool {
-        has_flag(self.rows, GOAL, state)
+        self.has_flag(GOAL, state)
     }
 
     fn next(&self, state: usize, label: u8) -> Option<usize>
         ensures value { result ≡ sheet_next self.now.rows.now self.now.moves.now state label }
         ensures leads { NextIs self.now.rows.now self.now.moves.now state label result }
     {
-        next(self.rows, self.moves, state, label)
+        self.state_behind(state, label)
     }
 }

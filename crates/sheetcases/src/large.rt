@@ -3,29 +3,22 @@ use crate::{reading, writing};
 use sheet::NO_ROW;
 use std::alloc::{AllocError, Global};
 
-fn push_all(bytes: &mut Vec<u8>, more: &[u8]) -> Result<(), AllocError> {
-    for b in more {
-        bytes.push(*b)?;
-    }
-    Ok(())
-}
-
 // The bytes of a sheet of `states` states and `moves` moves.
 fn sheet_bytes(heap: Global, states: u16, moves: u32) -> Result<Vec<u8>, AllocError> {
     let mut bytes = Vec::new(heap);
-    push_all(&mut bytes, b"SH\x01")?;
-    push_all(&mut bytes, &states.to_le_bytes())?;
-    for _i in 0..states {
-        push_all(&mut bytes, b"ST\x00\x00")?;
+    bytes.extend_from_slice(b"SH\x01")?;
+    bytes.extend_from_slice(&states.to_le_bytes())?;
+    for _ in 0..states {
+        bytes.extend_from_slice(b"ST\x00\x00")?;
     }
     for k in 0..moves {
-        let source = (k / 64 % 65536) as u16;
-        push_all(&mut bytes, b"MV")?;
-        push_all(&mut bytes, &source.to_le_bytes())?;
-        push_all(&mut bytes, &[(k % 64) as u8, 0, 0])?;
+        let source = (k / 64 & 0xffff) as u16;
+        bytes.extend_from_slice(b"MV")?;
+        bytes.extend_from_slice(&source.to_le_bytes())?;
+        bytes.extend_from_slice(&[(k % 64) as u8, 0, 0])?;
     }
-    push_all(&mut bytes, b"ZZ")?;
-    push_all(&mut bytes, &moves.to_le_bytes())?;
+    bytes.extend_from_slice(b"ZZ")?;
+    bytes.extend_from_slice(&moves.to_le_bytes())?;
     Ok(bytes)
 }
 

@@ -8,12 +8,12 @@ mod writing;
 
 use std::io::Read;
 
+// A case for the reader or the writer, as the word says that the line begins with.
+// Kept as two parameters, here and in the other files: what prints is given the handle.
 fn run_line(rt: &HostRuntime, line: &str) -> anyhow::Result<()> {
-    let (kind, case) = text::cut(line)?;
-    if kind == "read" {
-        reading::read_line(rt, case)
-    } else {
-        writing::write_line(rt, case)
+    match text::cut(line)? {
+        ("read", case) => reading::read_line(rt, case),
+        (_, case) => writing::write_line(rt, case),
     }
 }
 

@@ -2,7 +2,7 @@
 ghost use Rattle.std.specs.Prelude.{◌≤◌};
 
 use crate::text;
-use anyhow::anyhow;
+use anyhow::bail;
 use records::SheetFault;
 use sheet::{Move, NO_MOVE, NO_ROW, Row};
 use std::alloc::{AllocError, Global};
@@ -25,28 +25,20 @@ const USED_MOVE: Move = Move {
 const WHOLE: &[u8] =
     b"SH\x01\x02\x00ST\x02\x03onyST\x0c\x00MV\x00\x00\x07\x01\x00ZZ\x01\x00\x00\x00";
 
+// Kept as two parameters, here and below: two tables are lent, as the reader and the writer take them.
 fn all_zero(rows: &[Row], moves: &[Move]) -> bool {
-    for row in rows {
-        if *row != NO_ROW {
-            return false;
-        }
-    }
-    for m in moves {
-        if *m != NO_MOVE {
-            return false;
-        }
-    }
-    true
+    rows.iter().all(|row| *row == NO_ROW) && moves.iter().all(|entry| *entry == NO_MOVE)
 }
 
 // Where the last nine of `count` entries begin.
 fn last_nine(count: usize) -> usize
     ensures { result ≤ count }
 {
-    if count > 9 { count - 9 } else { 0 }
+    count.saturating_sub(9)
 }
 
 // Prints the last nine rows and moves.
+// Kept: the stored output is no Debug, and rows and faults are other crates' types.
 fn show_tables(rt: &HostRuntime, rows: &[Row], moves: &[Move]) -> anyhow::Result<()> {
     for row in &rows[last_nine(rows.len())..] {
         let Row {
@@ -73,12 +65,11 @@ fn written_back(
     bytes: &[u8],
 ) -> Result<bool, AllocError> {
     let mut out = vec![in heap; 0u8; bytes.len()]?;
-    match writer::write(rows, moves, bytes, out.as_mut_slice()) {
-        Ok(_) => Ok(out.as_slice() == bytes),
-        Err(_) => Ok(false),
-    }
+    let written = writer::write(rows, moves, bytes, out.as_mut_slice());
+    Ok(written.is_ok() && out.as_slice() == bytes)
 }
 
+// Kept beside Display: the stored output has the layer too.
 fn show_fault(rt: &HostRuntime, fault: SheetFault) -> anyhow::Result<()> {
     let number = fault.number();
     let layer = fault.layer();
@@ -96,7 +87,7 @@ pub fn read_case(rt: &HostRuntime, bytes: &[u8], n: usize, m: usize) -> anyhow::
     let moves = move_table.as_mut_slice();
     match reader::read(bytes, rows, moves) {
         Ok(counts) => {
-            let states = counts.states as usize;
+            let states = usize::from(counts.states);
             let used = counts.moves;
             print!(rt; "read {states} {used}:")?;
             show_tables(rt, &rows[0..states], &moves[0..used])?;
@@ -119,14 +110,15 @@ pub fn read_line(rt: &HostRuntime, line: &str) -> anyhow::Result<()> {
     print!(rt; "read,{name}: ")?;
     let lengths = text::decimals(rt.alloc(), lengths)?;
     let bytes = text::hex_bytes(rt.alloc(), hex)?;
-    if lengths.len() != 2 {
-        return Err(anyhow!("not two lengths"));
-    }
-    read_case(rt, bytes.as_slice(), lengths[0], lengths[1])
+    let [n, m] = *lengths.as_slice() else {
+        bail!("not two lengths");
+    };
+    read_case(rt, bytes.as_slice(), n, m)
 }
 
 pub fn cut_everywhere(rt: &HostRuntime) -> anyhow::Result<()> {
-    for len in 0..WHOLE.len() + 1 {
+    // Kept as a loop: each case is printed, with `?`.
+    for len in 0..=WHOLE.len() {
         print!(rt; "cut to {len}: ")?;
         read_case(rt, &WHOLE[0..len], 2, 1)?;
     }

@@ -1,43 +1,34 @@
 // Tables for the writer. A line has a name, the length of the output, the bytes that hold the names, rows and moves.
 use crate::text;
-use anyhow::anyhow;
+use anyhow::bail;
 use sheet::{Move, Row};
 use std::alloc::{AllocError, Global};
 
 // The rows whose flags, name places, name lengths, first moves and numbers of moves are given.
-fn rows_from(heap: Global, v: &[usize]) -> Result<Vec<Row>, AllocError> {
-    let mut rows = Vec::new(heap);
-    for i in 0..v.len() / 5 {
-        rows.push(Row {
-            flags: (v[5 * i] % 256) as u8,
-            place: v[5 * i + 1],
-            len: v[5 * i + 2],
-            first: v[5 * i + 3],
-            count: v[5 * i + 4],
-        })?;
-    }
-    Ok(rows)
+fn rows_from(heap: Global, numbers: &[usize]) -> Result<Vec<Row>, AllocError> {
+    let (fives, _) = numbers.as_chunks::<5>();
+    fives
+        .iter()
+        .map(|[flags, place, len, first, count]| Row {
+            flags: (*flags & 0xff) as u8,
+            place: *place,
+            len: *len,
+            first: *first,
+            count: *count,
+        })
+        .collect(heap)
 }
 
 // The moves whose labels and targets are given.
-fn moves_from(heap: Global, v: &[usize]) -> Result<Vec<Move>, AllocError> {
-    let mut moves = Vec::new(heap);
-    for i in 0..v.len() / 2 {
-        moves.push(Move {
-            label: (v[2 * i] % 256) as u8,
-            target: (v[2 * i + 1] % 65536) as u16,
-        })?;
-    }
-    Ok(moves)
-}
-
-fn only(bytes: &[u8], byte: u8) -> bool {
-    for b in bytes {
-        if *b != byte {
-            return false;
-        }
-    }
-    true
+fn moves_from(heap: Global, numbers: &[usize]) -> Result<Vec<Move>, AllocError> {
+    let (pairs, _) = numbers.as_chunks::<2>();
+    pairs
+        .iter()
+        .map(|[label, target]| Move {
+            label: (*label & 0xff) as u8,
+            target: (*target & 0xffff) as u16,
+        })
+        .collect(heap)
 }
 
 // Writes over an output of bytes 2E, and prints it whole, or whether a refusal kept it.
@@ -60,7 +51,7 @@ pub fn write_case(
         Err(fault) => {
             let number = fault.number();
             let row = fault.row();
-            let kept = only(out.as_slice(), 0x2e);
+            let kept = out.iter().all(|byte| *byte == 0x2e);
             println!(rt; "refused {number} {row}, output kept: {kept}")?;
         }
     }
@@ -78,14 +69,14 @@ pub fn write_line(rt: &HostRuntime, line: &str) -> anyhow::Result<()> {
     let names = text::hex_bytes(heap, names)?;
     let rows = rows_from(heap, text::decimals(heap, rows)?.as_slice())?;
     let moves = moves_from(heap, text::decimals(heap, moves)?.as_slice())?;
-    if room.len() != 1 {
-        return Err(anyhow!("not one length"));
-    }
+    let [room] = *room.as_slice() else {
+        bail!("not one length");
+    };
     write_case(
         rt,
         rows.as_slice(),
         moves.as_slice(),
         names.as_slice(),
-        room[0],
+        room,
     )
 }

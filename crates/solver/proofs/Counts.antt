@@ -1,13 +1,8 @@
 -- How many pass, with one more.
-use Rattle.std.proofs.Common.{◌≡◌, ℕ, zero, suc, ◌+◌, ◌<◌, ◌≤◌, Bool, true, false, cond, ap, ◌∙◌, ⊎_elim, arith}
+use Rattle.std.proofs.Common.{◌≡◌, ℕ, zero, suc, ◌+◌, ◌<◌, Bool, true, false, cond, ap, ◌∙◌, ⊎_elim, arith}
 use Rattle.std.proofs.lemmas.Bool.{cases_lt, cond-true, cond-false}
 use Rattle.game.specs.Search.{count_below}
-use Rattle.game.proofs.Searches.{one_small}
-use Rattle.game.proofs.Searches.{count_equal}
-
-pub many_le : (p : ℕ → Bool) (n : ℕ) → count_below p n ≤ n
-many_le p zero = omega arith
-many_le p (suc n) = omega (arith, many_le p n, one_small (p n))
+use Rattle.game.proofs.Searches.{one_small, count_le, count_equal}
 
 -- one that does not pass leaves room
 pub many_below : (p : ℕ → Bool) (n s : ℕ) → s < n → p s ≡ false → count_below p n < n
@@ -15,7 +10,7 @@ many_below p zero s lt e = absurd (omega arith)
 many_below p (suc n) s lt e =
     ⊎_elim
     (λ less. omega (arith, many_below p n s less e, one_small (p n)))
-    (λ ge. let same : n ≡ s = omega arith in omega (arith, many_le p n, cond-false {A = ℕ} (p n) 1 0 (ap p same ∙ e)))
+    (λ ge. let same : n ≡ s = omega arith in omega (arith, count_le p n, cond-false {A = ℕ} (p n) 1 0 (ap p same ∙ e)))
     (cases_lt s n)
 
 -- one more passes

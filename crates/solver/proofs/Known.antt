@@ -1,5 +1,5 @@
 -- The ranks below a bound, and when none is missing.
-use Rattle.std.proofs.Common.{◌≡◌, ℕ, zero, suc, ◌<◌, ◌≤◌, Bool, true, false, cond, not, ◌&&◌, ◌||◌, eqb, List, [], ◌∷◌, length, get_or, is_some, Some, None, Option, sym, refl, ap, ◌∙◌, ⊎_elim, arith}
+use Rattle.std.proofs.Common.{◌≡◌, ℕ, zero, suc, ◌<◌, ◌≤◌, Bool, true, false, cond, not, ◌&&◌, ◌||◌, eqb, List, is_some, Some, None, Option, sym, refl, ap, ◌∙◌, ⊎_elim, arith}
 use mathlib.Core.Path.{fun_ext}
 use Rattle.std.proofs.lemmas.Bool.{cases_Bool, cond-true, cond-false, both_ways, lt-ltb, le-ltb, ne_eqb}
 use Rattle.game.specs.Meaning.{Meaning, Lawful, done}
@@ -123,11 +123,6 @@ module _ (m : Meaning) (ok : Lawful m) (b : Bars) where
   -- cells that hold every rank are solved
   pub filled_solved : (cells : List Cell) → Filled m b cells → Solved m b cells
   filled_solved cells filled s = filled s ∙ cell_is s (rank m b s) refl
-
-pub past_end : {A : Type 0} (xs : List A) (i : ℕ) (d : A) → length xs ≤ i → get_or xs i d ≡ d
-past_end [] i d h = refl
-past_end (x ∷ xs) zero d h = absurd (omega arith)
-past_end (x ∷ xs) (suc i) d h = past_end xs i d (omega arith)
 
 -- solved cells say the ranks and choices
 pub solved_ranking : (m : Meaning) (b : Bars) (cells : List Cell) → Solved m b cells → ranking_in cells ≡ ranking m b

@@ -5,4 +5,4 @@ pub mod Counts
 pub mod Ends
 pub mod Walks
 pub mod Begins
-pub mod Same
+pub mod Finds

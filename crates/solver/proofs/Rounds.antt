@@ -1,5 +1,5 @@
 -- What a round does to cells, queue and pointers.
-use Rattle.std.proofs.Common.{◌≡◌, ℕ, suc, ◌<◌, ◌≤◌, true, false, cond, List, length, get_or, set, is_some, Some, None, Option, sym, refl, ap, ◌∙◌, subst, ⊎_elim, get_or-set_other, get_or-set_same}
+use Rattle.std.proofs.Common.{◌≡◌, ℕ, suc, ◌<◌, true, false, cond, List, length, get_or, set, is_some, Some, None, Option, sym, refl, ap, ◌∙◌, subst, ⊎_elim, get_or-set_other, get_or-set_same}
 use mathlib.Core.Path.{fun_ext}
 use Rattle.std.proofs.lemmas.Bool.{cases_Bool, cases_eq, cond-true, cond-false, both_ways}
 use Rattle.game.specs.Meaning.{Meaning, Lawful}
@@ -9,7 +9,7 @@ use Rattle.game.proofs.Searches.{none_some, same_some}
 use Rattle.solver.specs.declared.Cell.{Cell}
 use Rattle.solver.specs.Known.{under, low, known, cell_of, settled}
 use Rattle.solver.proofs.Known.{rank_of_cell, known_within, under_known, under_next, finds}
-use Rattle.solver.specs.Run.{Touched, Mid, passed, ranked_below, Pointed, has_cell}
+use Rattle.solver.specs.Run.{Touched, Mid, ranked_below, Points, has_cell, Run}
 
 or_none : {A : Type 0} (o q : Option A) → or_else o q ≡ None → o ≡ None
 or_none None q e = refl
@@ -37,7 +37,7 @@ module _ (m : Meaning) (ok : Lawful m) (b : Bars) where
   ranked_within : (q : ℕ) → ranked_below m b (suc q) ≡ within m b q
   ranked_within q = fun_ext (λ t. known_within m ok b q t)
 
-  pub mid_none : (k s : ℕ) (cells : List Cell) → Mid m b k cells → has_cell cells s ≡ false → known m b k s ≡ None
+  mid_none : (k s : ℕ) (cells : List Cell) → Mid m b k cells → has_cell cells s ≡ false → known m b k s ≡ None
   mid_none k s cells h e =
       ⊎_elim
       (λ f. none (known m b k s) (ap is_some (sym (ap (λ c. c.rank) f ∙ rank_of_cell m b s (known m b k s))) ∙ e))
@@ -48,39 +48,49 @@ module _ (m : Meaning) (ok : Lawful m) (b : Bars) where
       none None e = refl
       none (Some r) e = absurd (both_ways true e refl)
 
-  -- a cell that has a rank stays
-  pub had : (k s : ℕ) (cells : List Cell) → Mid m b k cells → has_cell cells s ≡ true → Touched m b k cells s
-  had k s cells h e =
-      ⊎_elim
-      (λ f. f ∙ ap (cell_of m b s) (sym (known_more k s (ap is_some (sym (ap (λ c. c.rank) f ∙ rank_of_cell m b s (known m b k s))) ∙ e))))
-      (λ f. f)
-      (h s)
-
   found : (k s : ℕ) (cells : List Cell) → Mid m b k cells → has_cell cells s ≡ false → settled m b (low cells k) k s ≡ cond (within m b k s) (Some (cell_of m b s (Some k))) None
   found k s cells h e = finds m ok b k s (low cells k) (λ q is'. low_ranked k cells h ∙ ap (ranked_below m b) is' ∙ ranked_within q) (mid_none k s cells h e)
 
   known_none : (k s : ℕ) → known m b k s ≡ None → known m b (suc k) s ≡ cond (within m b k s) (Some k) None
   known_none k s e = ap (λ o. or_else o (cond (within m b k s) (Some k) None)) e
 
-  -- a cell without rank that gets none
-  pub still : (k s : ℕ) (cells : List Cell) → Mid m b k cells → has_cell cells s ≡ false → settled m b (low cells k) k s ≡ None → Touched m b k cells s
-  still k s cells h e none =
-      let nw : within m b k s ≡ false = ⊎_elim (λ w. absurd (none_some none (found k s cells h e ∙ cond-true (within m b k s) _ _ w))) (λ f. f) (cases_Bool (within m b k s)) in
-      ⊎_elim (λ f. f ∙ ap (cell_of m b s) (mid_none k s cells h e ∙ sym (known_none k s (mid_none k s cells h e) ∙ cond-false (within m b k s) _ _ nw))) (λ f. f) (h s)
+-- what a round finds at a state, where cells, queue and pointers are as they are within it
+module _ {m : Meaning} (ok : Lawful m) {b : Bars} {k : ℕ} {cells : List Cell} {queue pointers : List ℕ} (run : Run m b k cells queue pointers) where
+  -- a cell that has a rank stays
+  pub had : (s : ℕ) → has_cell cells s ≡ true → Touched m b k cells s
+  had s e =
+      ⊎_elim
+      (λ f. f ∙ ap (cell_of m b s) (sym (known_more m ok b k s (ap is_some (sym (ap (λ c. c.rank) f ∙ rank_of_cell m b s (known m b k s))) ∙ e))))
+      (λ f. f)
+      (run.mid s)
+
+  -- a cell without rank that gets none, where cells' are the cells
+  pub still : (s : ℕ) {cells' : List Cell} → cells' ≡ cells → has_cell cells s ≡ false → settled m b (low cells' k) k s ≡ None → Touched m b k cells s
+  still s same e none' =
+      let none = ap (λ x. settled m b (low x k) k s) (sym same) ∙ none' in
+      let nw : within m b k s ≡ false = ⊎_elim (λ w. absurd (none_some none (found m ok b k s cells run.mid e ∙ cond-true (within m b k s) _ _ w))) (λ f. f) (cases_Bool (within m b k s)) in
+      ⊎_elim (λ f. f ∙ ap (cell_of m b s) (mid_none m ok b k s cells run.mid e ∙ sym (known_none m ok b k s (mid_none m ok b k s cells run.mid e) ∙ cond-false (within m b k s) _ _ nw))) (λ f. f) (run.mid s)
 
   -- one that gets rank k
-  pub gets : (k s : ℕ) (cells : List Cell) (c : Cell) → Mid m b k cells → has_cell cells s ≡ false → settled m b (low cells k) k s ≡ Some c → (c ≡ cell_of m b s (Some k)) × (known m b (suc k) s ≡ Some k)
-  gets k s cells c h e some =
-      let w : within m b k s ≡ true = ⊎_elim (λ w. w) (λ nw. absurd (none_some (found k s cells h e ∙ cond-false (within m b k s) _ _ nw) some)) (cases_Bool (within m b k s)) in
-      (same_some some (found k s cells h e ∙ cond-true (within m b k s) _ _ w), known_none k s (mid_none k s cells h e) ∙ cond-true (within m b k s) _ _ w)
+  pub gets : (s : ℕ) {cells' : List Cell} {c : Cell} → cells' ≡ cells → has_cell cells s ≡ false → settled m b (low cells' k) k s ≡ Some c → (c ≡ cell_of m b s (Some k)) × (known m b (suc k) s ≡ Some k)
+  gets s same e some' =
+      let some = ap (λ x. settled m b (low x k) k s) (sym same) ∙ some' in
+      let w : within m b k s ≡ true = ⊎_elim (λ w. w) (λ nw. absurd (none_some (found m ok b k s cells run.mid e ∙ cond-false (within m b k s) _ _ nw) some)) (cases_Bool (within m b k s)) in
+      (same_some some (found m ok b k s cells run.mid e ∙ cond-true (within m b k s) _ _ w), known_none m ok b k s (mid_none m ok b k s cells run.mid e) ∙ cond-true (within m b k s) _ _ w)
 
-  -- pointers
-  pub low_pointed : (k s : ℕ) (cells : List Cell) (ptr : List ℕ) → Mid m b k cells → Pointed m b k ptr → passed m (low cells k) s (get_or ptr s 0) ≡ true
-  low_pointed k s cells ptr h p = ap (λ q. passed m q s (get_or ptr s 0)) (low_ranked k cells h) ∙ (p s).1
+  -- the labels below the pointer lead to ranks below k
+  pub low_pointed : (s : ℕ) {cells' : List Cell} → cells' ≡ cells → Points m (low cells' k) s (get_or pointers s 0)
+  low_pointed s same = subst (λ q. Points m q s (get_or pointers s 0)) (sym (low_ranked m ok b k cells run.mid) ∙ ap (λ x. low x k) (sym same)) (run.pointed s)
 
-  pub set_pointed : (k s x : ℕ) (cells : List Cell) (ptr : List ℕ) → Mid m b k cells → Pointed m b k ptr → s < length ptr → x ≤ m.ceiling → passed m (low cells k) s x ≡ true → Pointed m b k (set ptr s x)
-  set_pointed k s x cells ptr h p lt le e u =
-      ⊎_elim
-      (λ same. subst (λ y. (y ≤ m.ceiling) × (passed m (ranked_below m b k) u y ≡ true)) (sym (ap (λ v. get_or (set ptr s x) v 0) same ∙ get_or-set_same ptr s x 0 lt)) (le, ap (λ v. passed m (ranked_below m b k) v x) same ∙ ap (λ q. passed m q s x) (sym (low_ranked k cells h)) ∙ e))
-      (λ ne. subst (λ y. (y ≤ m.ceiling) × (passed m (ranked_below m b k) u y ≡ true)) (sym (get_or-set_other ptr s u x 0 ne)) (p u))
-      (cases_eq u s)
+  -- the pointer of s moves on
+  pub repointed : {s x : ℕ} {cells' : List Cell} {pointers' : List ℕ} → s < length pointers → cells' ≡ cells → Points m (low cells' k) s x → pointers' ≡ set pointers s x → Run m b k cells queue pointers'
+  repointed {s} {x} {cells'} {pointers'} lt same points is' = record {
+    mid = run.mid;
+    pointed = λ u. ⊎_elim
+        (λ here. subst (λ y. Points m (ranked_below m b k) u y) (sym (ap (λ v. get_or v u 0) is' ∙ ap (λ v. get_or (set pointers s x) v 0) here ∙ get_or-set_same pointers s x 0 lt)) (subst (λ v. Points m (ranked_below m b k) v x) (sym here) (subst (λ q. Points m q s x) (ap (λ z. low z k) same ∙ low_ranked m ok b k cells run.mid) points)))
+        (λ ne. subst (λ y. Points m (ranked_below m b k) u y) (sym (ap (λ v. get_or v u 0) is' ∙ get_or-set_other pointers s u x 0 ne)) (run.pointed u))
+        (cases_eq u s);
+    counted = run.counted;
+    inside = run.inside;
+    room = run.room;
+  }

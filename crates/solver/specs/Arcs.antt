@@ -1,5 +1,5 @@
 -- The moves of a game as arcs, number 64 s + l for label l of state s, and lists of the arcs into each state.
-use Rattle.std.specs.Prelude.{◌≡◌, ℕ, zero, suc, ◌/◌, ◌%◌, ◌<◌, Bool, cond, not, ◌&&◌, ◌||◌, List, Some, None, Option, slice_index}
+use Rattle.std.specs.Prelude.{◌≡◌, ℕ, zero, suc, ◌/◌, ◌%◌, ◌<◌, Bool, cond, not, ◌&&◌, ◌||◌, List, Some, None, Option, slice_index_or}
 use Rattle.game.specs.Meaning.{Meaning}
 use Rattle.game.specs.Ranks.{Bars, is}
 
@@ -14,12 +14,12 @@ arc m b e = cond (usable m b (e / 64) (e % 64)) (m.next (e / 64) (e % 64)) None
 abbrev pub into : Meaning → Bars → ℕ → ℕ → Bool
 into m b t e = is (arc m b e) t
 
--- one more than the highest number below n that passes, and 0 if none does
-abbrev pub latest : (ℕ → Bool) → ℕ → ℕ
-latest p zero = 0
-latest p (suc n) = cond (p n) (suc n) (latest p n)
+-- the highest number below n that passes
+abbrev pub latest : (ℕ → Bool) → ℕ → Option ℕ
+latest p zero = None
+latest p (suc n) = cond (p n) (Some n) (latest p n)
 
 -- the arcs below E are in the lists
-pub record Linked (m : Meaning) (b : Bars) (E : ℕ) (head link : List ℕ) : Type 0 where
-  pub heads : (t : ℕ) → t < m.size → slice_index head t ≡ latest (into m b t) E
-  pub links : (e t : ℕ) → e < E → arc m b e ≡ Some t → slice_index link e ≡ latest (into m b t) e
+pub record Linked (m : Meaning) (b : Bars) (E : ℕ) (heads links : List (Option ℕ)) : Type 0 where
+  pub first : (t : ℕ) → t < m.size → slice_index_or heads t None ≡ latest (into m b t) E
+  pub after : (e t : ℕ) → e < E → arc m b e ≡ Some t → slice_index_or links e None ≡ latest (into m b t) e

@@ -1,9 +1,10 @@
 -- What the cells of a table say of a game's states.
-use Rattle.std.specs.Prelude.{◌≡◌, ℕ, Bool, true, false, ◌&&◌, List, length, None, nat_le, slice_index_or}
+use Rattle.std.specs.Prelude.{◌≡◌, ℕ, true, false, ◌&&◌, List, length, None, Result, is_ok, nat_le, slice_index_or}
 use Rattle.game.specs.Meaning.{Meaning}
 use Rattle.game.specs.Ranks.{Bars, rank, choice}
 use Rattle.law.specs.Answers.{Ranking}
 use Rattle.solver.specs.declared.Cell.{Cell}
+use Rattle.solver.specs.declared.TooLarge.{TooLarge}
 
 abbrev pub empty : Cell
 empty = record { rank = None; choice = None }
@@ -21,7 +22,7 @@ abbrev pub Solved : Meaning → Bars → List Cell → Type 0
 Solved m b cells = (s : ℕ) → cell_at cells s ≡ record { rank = rank m b s; choice = choice m b s }
 
 -- What solving leaves: where the game has at most 4,096 states and a cell for each, the cells solved; else as they were.
-pub record Solving (m : Meaning) (b : Bars) (before : List Cell) (fits : Bool) (after : List Cell) : Type 0 where
-  pub answer : fits ≡ (nat_le m.size 4096 && nat_le m.size (length before))
-  pub solved : fits ≡ true → Solved m b after
-  pub too_large : fits ≡ false → after ≡ before
+pub record Solving (m : Meaning) (b : Bars) (before : List Cell) (done : Result Unit TooLarge) (after : List Cell) : Type 0 where
+  pub answer : is_ok done ≡ (nat_le m.size 4096 && nat_le m.size (length before))
+  pub solved : is_ok done ≡ true → Solved m b after
+  pub too_large : is_ok done ≡ false → after ≡ before

@@ -1,15 +1,15 @@
 -- What the cells hold while ranks are worked out: the ranks below a bound.
-use Rattle.std.specs.Prelude.{◌≡◌, ℕ, zero, suc, Bool, false, cond, List, get_or, Some, None, Option, ◌==◌, nat_lt, slice_index_or}
+use Rattle.std.specs.Prelude.{◌≡◌, ℕ, zero, suc, Bool, cond, List, get_or, Some, None, Option, ◌==◌, nat_lt, slice_index_or}
+use Rattle.std.specs.Option.{option_map}
 use Rattle.game.specs.Meaning.{Meaning, done}
 use Rattle.game.specs.Search.{first_below}
-use Rattle.game.specs.Ranks.{Bars, lowest_label, public_must, within, rank}
+use Rattle.game.specs.Ranks.{Bars, leads_to, lowest_label, public_must, within, rank}
 use Rattle.solver.specs.declared.Cell.{Cell}
 use Rattle.solver.specs.Cells.{empty}
 
 -- there is a rank, and it is below k
 abbrev pub under : Option ℕ → ℕ → Bool
-under None k = false
-under (Some r) k = nat_lt r k
+under o k = leads_to o (λ r. nat_lt r k)
 
 -- the cell of t has a rank below k
 abbrev pub low : List Cell → ℕ → ℕ → Bool
@@ -31,8 +31,7 @@ cell_of m b s (Some (suc q)) = cell (suc q) (cond (m.public s) None (lowest_labe
 
 -- a cell of rank k, if there is a choice
 abbrev pub picked : ℕ → Option ℕ → Option Cell
-picked k None = None
-picked k (Some l) = Some (cell k (Some l))
+picked k o = option_map (λ l. cell k (Some l)) o
 
 -- what round k finds of a state that has no rank yet, where p says which states had one before
 abbrev pub settled : Meaning → Bars → (ℕ → Bool) → ℕ → ℕ → Option Cell

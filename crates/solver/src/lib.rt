@@ -3,19 +3,23 @@
 // Scratch memory: 1.1 MB on the stack, no heap.
 #![tactic(auto)]
 
-ghost use Rattle.std.specs.Prelude.{◌≡◌, ℕ, ◌<◌, ◌≤◌, true, false, ◌&&◌, length, get_or, is_some, nat_le, slice_index_or};
+ghost use Rattle.std.specs.Prelude.{◌≡◌, ◌≤◌, length, Some};
 ghost use Rattle.labelset.specs.Bits.{has_bit};
-ghost use Rattle.solver.specs.Cells.{empty, cell_at, Solving};
-ghost use Rattle.solver.specs.Known.{Filled};
+ghost use Rattle.solver.specs.Cells.{cell_at, Solving};
+ghost use Rattle.solver.specs.Known.{cell, Filled};
 
+use arrayvec::ArrayVec;
+use board::Board;
 use game::Game;
-use layers::{begin, layer};
-use work::{Predecessors, Work};
+use law::MOST;
+use layers::Layer;
+use preds::{ARCS, Link, Predecessors};
+use work::Work;
 
-mod arcs;
-mod labels;
+mod board;
 mod layers;
 pub mod outcome;
+mod preds;
 mod work;
 
 // What a plan says of one state.
@@ -25,96 +29,76 @@ pub struct Cell {
     pub choice: Option<u8>,
 }
 
-// The most states of a game that are worked out.
-const MOST: usize = 4096;
+impl Cell {
+    // The cell of a state of this rank.
+    fn ranked(rank: u32, choice: Option<u8>) -> Cell
+        ensures { result ≡ cell rank choice }
+    {
+        Cell {
+            rank: Some(rank),
+            choice,
+        }
+    }
+}
+
+// The cell of a state that has no rank.
+pub const EMPTY: Cell = Cell {
+    rank: None,
+    choice: None,
+};
+
+// A game has more states than are worked out, or than there are cells.
+#[derive(Clone, Copy, Drop, PartialEq, Eq, Debug)]
+pub struct TooLarge;
 
 // The cell of a state; one beyond the table is empty.
 pub fn cell_at(cells: &[Cell], s: usize) -> Cell
     ensures { result ≡ cell_at cells.now s }
 {
-    if s < cells.len() {
-        cells[s]
-    } else {
-        Cell {
-            rank: None,
-            choice: None,
-        }
-    }
-}
-
-fn has_rank(cells: &[Cell], s: usize) -> bool
-    requires { s < length cells.now }
-    ensures { result ≡ is_some (get_or cells.now s empty).rank }
-{
-    match cells[s].rank {
-        Some(_) => true,
-        None => false,
-    }
-}
-
-fn write(cell: &mut Cell, c: Cell)
-    ensures { cell.new ≡ c }
-{
-    cell.rank = c.rank;
-    cell.choice = c.choice;
-}
-
-fn clear(cells: &mut [Cell])
-    ensures { (s : ℕ) → slice_index_or cells.new s empty ≡ empty }
-{
-    for i in 0..cells.len() {
-        cells[i] = Cell {
-            rank: None,
-            choice: None,
-        };
-    }
+    cells.get(s).copied().unwrap_or(EMPTY)
 }
 
 // Works out every rank and choice, layer after layer.
-fn fill<G: Game>(game: &G, bars: u64, cells: &mut [Cell])
-    requires room { (G.meaning game.now).size ≤ length cells.old }
-    requires few { (G.meaning game.now).size ≤ 4096 }
-    ensures { Filled (G.meaning game.now) (has_bit bars) cells.new }
+fn fill<G: Game>(board: &Board<G>, cells: &mut [Cell])
+    requires { (G.meaning board.now.game.now).size ≤ length cells.old }
+    ensures { Filled (G.meaning board.now.game.now) (has_bit board.now.bars) cells.new }
 {
+    cells.fill(EMPTY);
     let mut preds = Predecessors {
-        head: [0; 4096],
-        link: [0; 262144],
+        heads: [Link::NONE; MOST],
+        links: [Link::NONE; ARCS],
     };
+    board.link_all(&mut preds);
     let mut work = Work {
-        queue: [0; 4096],
-        ptr: [0; 4096],
-        tail: 0,
+        cells,
+        queue: ArrayVec::new(),
+        pointers: [0; MOST],
     };
-    clear(cells);
-    arcs::link_all(game, bars, &mut preds);
-    begin(game, cells, &mut work);
-    let mut k: u32 = 0;
-    let mut lo = 0;
-    while lo < work.tail {
-        k += 1;
-        let hi = work.tail;
-        layer(game, bars, cells, &mut work, &preds, k, lo);
-        lo = hi;
+    board.begin(&mut work);
+    let mut rank = 0;
+    let mut from = 0;
+    // Kept as a loop: the queue grows while it is walked, and the next layer begins where this one ended.
+    while from < work.queue.len() {
+        rank += 1;
+        let layer = Layer {
+            board: &*board,
+            preds: &preds,
+            rank,
+        };
+        from = layer.settle(&mut work, from);
     }
 }
 
-// Whether a game has at most 4,096 states, and not more than there are cells.
-fn has_room<G: Game>(game: &G, cells: usize) -> bool
-    ensures value { result ≡ (nat_le (G.meaning game.now).size 4096 && nat_le (G.meaning game.now).size cells) }
-    ensures few { result ≡ true → ((G.meaning game.now).size ≤ 4096) × ((G.meaning game.now).size ≤ cells) }
-{
-    let n = game.size();
-    n <= MOST && n <= cells
-}
-
-// Gives every cell the rank and the choice of its state under the bars, and answers true; or answers false, and leaves
-// the cells as they are, where the game has more than 4,096 states or more than there are cells.
-pub fn solve<G: Game>(game: &G, bars: u64, cells: &mut [Cell]) -> bool
+// Gives every cell the rank and the choice of its state under the bars; a game that is too large is refused, and leaves
+// the cells as they are.
+pub fn solve<G: Game>(game: &G, bars: u64, cells: &mut [Cell]) -> Result<(), TooLarge>
     ensures { Solving (G.meaning game.now) (has_bit bars) cells.old result cells.new }
 {
-    let fits = has_room(game, cells.len());
-    if fits {
-        fill(game, bars, cells);
+    let size = game.size();
+    if size <= MOST && size <= cells.len() {
+        fill(&Board { game, bars }, cells);
+        Ok(())
+    } else {
+        Err(TooLarge)
     }
-    fits
 }

@@ -1,6 +1,5 @@
 // What a plan says as a whole.
-ghost use Rattle.std.specs.Prelude.{◌≡◌, max};
-ghost use Rattle.std.specs.Option.{unwrap_or};
+ghost use Rattle.std.specs.Prelude.{◌≡◌};
 ghost use Rattle.game.specs.Search.{first_below, highest};
 ghost use Rattle.law.specs.Answers.{lost_start, start_rank, plan_verdict};
 ghost use Rattle.solver.specs.Cells.{ranking_in};
@@ -9,6 +8,7 @@ use crate::{Cell, cell_at};
 use game::Game;
 use law::Verdict;
 
+// Kept as two parameters, here and below: a closure over a struct of game and cells needs a clause of its own, as in layers.
 fn is_lost<G: Game>(game: &G, cells: &[Cell], s: usize) -> bool
     ensures { result ≡ lost_start (G.meaning game.now) (ranking_in cells.now).rank s }
 {
@@ -19,39 +19,28 @@ fn is_lost<G: Game>(game: &G, cells: &[Cell], s: usize) -> bool
 fn first_lost<G: Game>(game: &G, cells: &[Cell]) -> Option<usize>
     ensures { result ≡ first_below (lost_start (G.meaning game.now) (ranking_in cells.now).rank) (G.meaning game.now).size }
 {
-    for s in 0..game.size() {
-        if is_lost(game, cells, s) {
-            return Some(s);
-        }
-    }
-    None
+    (0..game.size()).find(|s| is_lost(game, cells, *s))
 }
 
-fn rank_of_start<G: Game>(game: &G, cells: &[Cell], s: usize) -> u32
-    ensures { result ≡ unwrap_or (start_rank (G.meaning game.now) (ranking_in cells.now).rank s) 0 }
+// The rank of a start.
+fn rank_of_start<G: Game>(game: &G, cells: &[Cell], s: usize) -> Option<u32>
+    ensures { result ≡ start_rank (G.meaning game.now) (ranking_in cells.now).rank s }
 {
-    if !game.is_start(s) {
-        return 0;
+    if game.is_start(s) {
+        cell_at(cells, s).rank
+    } else {
+        None
     }
-    cell_at(cells, s).rank.unwrap_or(0)
 }
 
-fn larger(a: u32, b: u32) -> u32
-    ensures { result ≡ max a b }
-{
-    if a < b { b } else { a }
-}
-
-// The highest rank of a start.
+// The highest rank of a start; 0 where none has one.
 fn highest_rank<G: Game>(game: &G, cells: &[Cell]) -> u32
     ensures { result ≡ highest (start_rank (G.meaning game.now) (ranking_in cells.now).rank) (G.meaning game.now).size }
 {
-    let mut top = 0;
-    for s in 0..game.size() {
-        let r = rank_of_start(game, cells, s);
-        top = larger(r, top);
-    }
-    top
+    (0..game.size()).fold(
+        0,
+        |top: u32, s| top.max(rank_of_start(game, cells, s).unwrap_or(0)),
+    )
 }
 
 // Held with the highest rank of a start, or lost with the lowest start that has none, by what the cells hold.

@@ -1,9 +1,10 @@
-use Rattle.std.proofs.Common.{◌≡◌, ℕ, ◌+◌, ◌-◌, ◌≤◌, Bool, true, false, cond, leb, List, ◌++◌, length, take, drop, Some, None, Option, sym, refl, ap, ◌∙◌, append_assoc, arith, length-append, length-drop, length-take, le-leb, leb-true}
-use borrow.Rule.Slice.PartMut.{put_mid}
+use Rattle.std.proofs.Common.{◌≡◌, ℕ, ◌+◌, ◌≤◌, Bool, true, false, cond, leb, List, ◌++◌, length, take, drop, Some, None, Option, sym, refl, ap, subst, ◌∙◌, append_assoc, arith, length-append, length-drop, length-take, leb-true}
+use Rattle.std.specs.Option.{unwrap_or}
+use Rattle.std.proofs.lemmas.Bool.{le-leb}
 use Rattle.std.proofs.lemmas.List.{drop-drop, take_at, drop_at}
 use Rattle.text.specs.Places.{over, placed, Written}
 
--- A text where it fits.
+-- A text that fits is put in its place.
 pub placed_in : (at : ℕ) (text out : List ℕ) → at + length text ≤ length out → placed at text out ≡ (Some (at + length text), over at text out)
 placed_in at text out room = rw (le-leb (at + length text) (length out) room)
 
@@ -54,12 +55,8 @@ placed_written at xs o {e} {p} done = by (leb (at + length xs) (length o)) refl 
         let no : ◌≡◌ {A = ℕ} 0 1 = cc in
         absurd (omega arith)
 
--- A part of the output that a call filled with a text.
-pub written_part : (out ys xs : List ℕ) (at k : ℕ) → ys ≡ xs → k ≡ length xs → at + length xs ≤ length out → Written out at xs (at + k) (put_mid at (at + k - at) out ys)
-written_part out ys xs at k same e room =
-    let d : drop (at + k - at) (drop at out) ≡ drop (at + length xs) out = drop-drop (at + k - at) at out ∙ ap (λ (n : ℕ). drop n out) (omega arith) in
-    record {
-      ends = ap (λ (n : ℕ). at + n) e;
-      room = omega arith;
-      whole = ap (λ (x : List ℕ). take at out ++ (x ++ drop (at + k - at) (drop at out))) same ∙ ap (λ (x : List ℕ). take at out ++ (xs ++ x)) d;
-    }
+-- A put that answered an end, to which the place has moved.
+pub put_written : (at : ℕ) (xs o : List ℕ) {r : Option ℕ} {p : List ℕ} {e n : ℕ} → ◌≡◌ {A = Option ℕ × List ℕ} (r, p) (placed at xs o) → n ≡ unwrap_or r at → r ≡ Some e → Written o at xs n p
+put_written at xs o {r} {p} {e} {n} done moved some =
+    let end : n ≡ e = moved ∙ ap (λ r. unwrap_or r at) some in
+    subst (λ n. Written o at xs n p) (sym end) (placed_written at xs o (ap (λ (r : Option ℕ). (r, p)) (sym some) ∙ done))

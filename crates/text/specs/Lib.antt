@@ -1,2 +1,4 @@
 pub mod Lines
+pub mod Texts
 pub mod Places
+pub mod Pages

@@ -1,19 +1,14 @@
 // The library as the README shows it: a sheet is read, planned and played; and the whole run as one list of calls.
 use law::{Answer, Call};
-use sheet::{NO_MOVE, NO_ROW, Sheet};
+use sheet::{NO_MOVE, NO_ROW};
 use watch::Watch;
 use worked::ask_house;
 
 pub fn tour(rt: &HostRuntime, bytes: &[u8]) -> anyhow::Result<()> {
     let mut rows = [NO_ROW; 16];
     let mut moves = [NO_MOVE; 32];
-    if let Ok(counts) = reader::read(bytes, &mut rows, &mut moves) {
-        let n = usize::from(counts.states).min(rows.len());
-        let m = counts.moves.min(moves.len());
-        let mut watch = Watch::new(Sheet {
-            rows: &rows[0..n],
-            moves: &moves[0..m],
-        });
+    if let Ok(sheet) = tables::open(bytes, &mut rows, &mut moves) {
+        let mut watch = Watch::new(sheet);
         println!(rt; "plan: {:?}", watch.plan())?;
         println!(rt; "open 0: {:?}", watch.open(0))?;
         println!(rt; "reply: {:?}", watch.reply())?;
@@ -34,8 +29,8 @@ pub fn house_run(rt: &HostRuntime) -> anyhow::Result<()> {
         Call::Look,
     ];
     let mut answers = [Answer::Barred(0); 7];
-    let count = ask_house(&calls, &mut answers).min(answers.len());
-    for answer in &answers[0..count] {
+    let count = ask_house(&calls, &mut answers);
+    for answer in answers.iter().take(count) {
         println!(rt; "{answer:?}")?;
     }
     Ok(())

@@ -1,6 +1,8 @@
 -- From what a call leaves in the memory to what it adds to every list of calls.
 use Rattle.std.proofs.Common.{◌≡◌, ℕ, ◌+◌, ◌/◌, ◌%◌, ◌^◌, ◌<◌, Bool, true, false, cond, not, ◌&&◌, ◌||◌, eqb, ltb, List, [], ◌∷◌, ◌++◌, length, get_or, take, set, is_some, Some, None, Ok, Err, Option, Result, unwrap_or, sym, refl, ap, ◌∙◌, subst, arith}
 use mathlib.Core.Path.{fun_ext}
+use Rattle.std.proofs.Math.Bool.{and-true}
+use Rattle.std.specs.Prelude.{MatchResult}
 use Rattle.std.proofs.lemmas.Nat.{pow_pos, shr_le}
 use Rattle.std.proofs.lemmas.List.{take_more, take_more_set, length-take-le}
 use Rattle.std.proofs.lemmas.Bool.{cond-true, both_ways, and_parts, not-true, not-false, ltb-true}
@@ -9,6 +11,9 @@ use Rattle.game.specs.Ranks.{Bars, bits, set_label, rank}
 use Rattle.game.specs.Final.{Final}
 use Rattle.game.proofs.Winning.{final}
 use Rattle.law.specs.declared.Fault.{Fault}
+use Rattle.law.specs.declared.Rating.{Rating}
+use Rattle.law.specs.declared.Verdict.{Verdict}
+use Rattle.law.specs.declared.View.{View}
 use Rattle.law.specs.declared.Fault.TheVariants.{NotStart, NoState, NoLabel, RunOpen, RunOver, OtherTurn, NoPlan, NoRank}
 use Rattle.law.specs.declared.Call.{Call}
 use Rattle.law.specs.declared.Call.TheVariants.{Plan, Open, Reply, Report, Rate, Look, Leave}
@@ -21,17 +26,13 @@ use Rattle.law.specs.Law.{answered, replied, answer, Kept}
 use Rattle.law.proofs.Laws.{law, same_bars, sound_unblocked}
 use Rattle.law.proofs.Checked.{no_fault_sound}
 use Rattle.labelset.specs.Bits.{has_bit}
-use Rattle.labelset.proofs.Bits.{whole_set}
+use Rattle.labelset.proofs.Bits.{bits_lt, changed_has, whole_set}
 use Rattle.solver.proofs.Known.{solved_ranking}
 use Rattle.solver.specs.Cells.{ranking_in, Solved}
 use Rattle.watch.specs.declared.Memory.{Memory}
 use Rattle.watch.specs.declared.Table.{Table}
 use Rattle.watch.specs.Memory.{bars_of, ranking_of, counted, moved_to, with_plan, after, replied_to, changed, agree, change_call}
 use Rattle.watch.specs.Lived.{Shows, Lived, entry, Extends, logged, log_of}
-
-and_true : (x : Bool) → x ≡ (x && true)
-and_true true = refl
-and_true false = refl
 
 module _ (m : Meaning) (ok : Lawful m) where
   -- one more right answer
@@ -61,15 +62,19 @@ module _ (m : Meaning) (ok : Lawful m) where
   -- it moves at most the position
   quiet_shows : (L : Log) (d : Memory) (c : Call) (a : Answer) (p : Option ℕ) → Quiet c → Shows m L d → accepted a ≡ true → p ≡ moved m c a (position m L) → Shows m (entry c a ∷ L) (moved_to d p)
   quiet_shows L d c a p q sh acc to =
-      let same : stands L ≡ (is_plan c || (stands L && not (changes (barred L) c))) = and_true (stands L) ∙ ap (λ t. stands L && not t) (sym (q.no_change (barred L))) ∙ ap (λ t. t || (stands L && not (changes (barred L) c))) (sym q.no_plan) in
+      let same : stands L ≡ (is_plan c || (stands L && not (changes (barred L) c))) = sym (and-true (stands L)) ∙ ap (λ t. stands L && not t) (sym (q.no_change (barred L))) ∙ ap (λ t. t || (stands L && not (changes (barred L) c))) (sym q.no_plan) in
       let said : (x : ℕ) → barred L x ≡ unwrap_or (says c x) (barred L x) = λ x. ap (λ o. unwrap_or o (barred L x)) (sym (q.no_label x)) in
       accepted_shows L d (moved_to d p) c a sh acc (λ x. sh.bars_are x ∙ said x) sh.bars_fit to (sh.plan ∙ same)
       (λ st. subst (λ b. Solved m b d.table.cells) (fun_ext said) (sh.table_is (same ∙ st))) refl
 
   -- a call by its result: refused, or accepted with the memory e
-  by_result : {A : Type 0} (d e : Memory) (c : Call) (f : A → Answer) (r : Result A Fault) → ((L : Log) → Lived m L d → answered f r ≡ answer m L c) → ((a : A) (L : Log) → r ≡ Ok a → Lived m L d → Shows m (entry c (f a) ∷ L) e) → Extends m d c (answered f r) (after r d e)
-  by_result d e c f (Ok a) right shows L old = more L d e c (f a) old (right L old) (shows a L refl old)
-  by_result d e c f (Err x) right shows L old = more L d (counted d) c (Refused x) old (right L old) (refused_shows L d c x old.shows)
+  by_result : {A : Type 0} (d e new : Memory) (c : Call) (f : A → Answer) (r : Result A Fault) → new ≡ after r d e → ((L : Log) → Lived m L d → answered f r ≡ answer m L c) → ((a : A) (L : Log) → r ≡ Ok a → Lived m L d → Shows m (entry c (f a) ∷ L) e) → Extends m d c (answered f r) new
+  by_result d e new c f (Ok a) left right shows L old = subst (Lived m (entry c (f a) ∷ L)) (sym left) (more L d e c (f a) old (right L old) (shows a L refl old))
+  by_result d e new c f (Err x) left right shows L old = subst (Lived m (entry c (Refused x) ∷ L)) (sym left) (more L d (counted d) c (Refused x) old (right L old) (refused_shows L d c x old.shows))
+
+  -- the same of a call that moves at most the position
+  quiet_extends : {A : Type 0} (d new : Memory) (c : Call) (f : A → Answer) (p : Option ℕ) (r : Result A Fault) → Quiet c → ((a : A) → accepted (f a) ≡ true) → ((a : A) (L : Log) → r ≡ Ok a → d.position ≡ position m L → p ≡ moved m c (f a) (position m L)) → ((L : Log) → Lived m L d → answered f r ≡ answer m L c) → new ≡ after r d (moved_to d p) → Extends m d c (answered f r) new
+  quiet_extends d new c f p r q acc to right left = by_result d (moved_to d p) new c f r left right (λ a L e old. quiet_shows L d c (f a) p q old.shows (acc a) (to a L e old.shows.at_position))
 
   -- what an answer says does not hang on the cells where no plan stands
   same_if : {A : Type 0} (c : Bool) (f : Fault) (x y : Result A Fault) → (c ≡ false → x ≡ y) → refuse_if c f x ≡ refuse_if c f y
@@ -89,8 +94,8 @@ module _ (m : Meaning) (ok : Lawful m) where
       ap (answered Opened) (same_if (is_some (position m L)) RunOpen _ _ (λ _. same_if (not (m.start s)) NotStart _ _ (λ _. same_if (not (stands L)) NoPlan _ _ (λ on.
       ap (λ ρ. or_fault NoRank (ρ.rank s)) (planned_ranking L d sh (not-false _ on))))))
 
-  pub open_extends : (d : Memory) (s : ℕ) → Extends m d (Open s) (answered Opened (open_answer m (ranking_of d) d.planned d.position s)) (after (open_answer m (ranking_of d) d.planned d.position s) d (moved_to d (Some s)))
-  open_extends d s = by_result d (moved_to d (Some s)) (Open s) Opened _ (open_right d s) (λ a L _ old. quiet_shows L d (Open s) (Opened a) (Some s) (record { no_label = λ x. refl; no_plan = refl; no_change = λ b. refl }) old.shows refl refl)
+  pub open_extends : (d new : Memory) (s : ℕ) (r : Result ℕ Fault) → r ≡ open_answer m (ranking_of d) d.planned d.position s → new ≡ after r d (moved_to d (Some s)) → Extends m d (Open s) (answered Opened r) new
+  open_extends d new s r is = quiet_extends d new (Open s) Opened (Some s) r (record { no_label = λ x. refl; no_plan = refl; no_change = λ b. refl }) (λ a. refl) (λ a L e at. refl) (λ L old. ap (answered Opened) is ∙ open_right d s L old)
 
   -- Reply
   reply_same : (ρ ρ' : Ranking) (st : Bool) (o : Option ℕ) → (st ≡ true → ρ ≡ ρ') → reply_answer m ρ st o ≡ reply_answer m ρ' st o
@@ -105,21 +110,16 @@ module _ (m : Meaning) (ok : Lawful m) where
       ap (λ o. answered replied (reply_answer m (ranking_of d) d.planned o)) sh.at_position ∙ ap (λ st. answered replied (reply_answer m (ranking_of d) st (position m L))) sh.plan ∙
       ap (answered replied) (reply_same (ranking_of d) (ranking m (barred L)) (stands L) (position m L) (planned_ranking L d sh))
 
-  pub reply_extends : (d : Memory) (r : Result (ℕ × ℕ) Fault) → r ≡ reply_answer m (ranking_of d) d.planned d.position → Extends m d Reply (answered replied r) (after r d (moved_to d (replied_to m d r)))
-  reply_extends d r is =
-      by_result d (moved_to d (replied_to m d r)) Reply replied r (λ L old. ap (answered replied) is ∙ reply_right d L old)
-      (λ a L e old. quiet_shows L d Reply (replied a) (replied_to m d r) (record { no_label = λ x. refl; no_plan = refl; no_change = λ b. refl }) old.shows refl
-      (ap (replied_to m d) e ∙ ap (λ o. behind m o a.0) old.shows.at_position))
+  pub reply_extends : (d new : Memory) (r : Result (ℕ × ℕ) Fault) → r ≡ reply_answer m (ranking_of d) d.planned d.position → new ≡ after r d (moved_to d (replied_to m d r)) → Extends m d Reply (answered replied r) new
+  reply_extends d new r is = quiet_extends d new Reply replied (replied_to m d r) r (record { no_label = λ x. refl; no_plan = refl; no_change = λ b. refl }) (λ a. refl) (λ a L e at. ap (replied_to m d) e ∙ ap (λ o. behind m o a.0) at) (λ L old. ap (answered replied) is ∙ reply_right d L old)
 
   -- Report
   report_right : (d : Memory) (l : ℕ) (L : Log) → Lived m L d → answered Reported (report_answer m d.position l) ≡ answer m L (Report l)
   unfolding answer
   report_right d l L old = ap (λ o. answered Reported (report_answer m o l)) old.shows.at_position
 
-  pub report_extends : (d : Memory) (l : ℕ) → Extends m d (Report l) (answered Reported (report_answer m d.position l)) (after (report_answer m d.position l) d (moved_to d (behind m d.position l)))
-  report_extends d l =
-      by_result d (moved_to d (behind m d.position l)) (Report l) Reported _ (report_right d l)
-      (λ a L _ old. quiet_shows L d (Report l) (Reported a) (behind m d.position l) (record { no_label = λ x. refl; no_plan = refl; no_change = λ b. refl }) old.shows refl (ap (λ o. behind m o l) old.shows.at_position))
+  pub report_extends : (d new : Memory) (l : ℕ) (r : Result ℕ Fault) → r ≡ report_answer m d.position l → new ≡ after r d (moved_to d (behind m d.position l)) → Extends m d (Report l) (answered Reported r) new
+  report_extends d new l r is = quiet_extends d new (Report l) Reported (behind m d.position l) r (record { no_label = λ x. refl; no_plan = refl; no_change = λ b. refl }) (λ a. refl) (λ a L e at. ap (λ o. behind m o l) at) (λ L old. ap (answered Reported) is ∙ report_right d l L old)
 
   -- Rate
   rate_right : (d : Memory) (s : ℕ) (L : Log) → Lived m L d → answered Rated (rate_answer m (ranking_of d) d.planned s) ≡ answer m L (Rate s)
@@ -129,26 +129,26 @@ module _ (m : Meaning) (ok : Lawful m) where
       ap (λ st. answered Rated (rate_answer m (ranking_of d) st s)) sh.plan ∙
       ap (answered Rated) (same_if (not (ltb s m.size)) NoState _ _ (λ _. same_if (not (stands L)) NoPlan _ _ (λ on. ap (λ ρ. Ok (rating m ρ s)) (planned_ranking L d sh (not-false _ on)))))
 
-  pub rate_extends : (d : Memory) (s : ℕ) → Extends m d (Rate s) (answered Rated (rate_answer m (ranking_of d) d.planned s)) (after (rate_answer m (ranking_of d) d.planned s) d d)
-  rate_extends d s = by_result d d (Rate s) Rated _ (rate_right d s) (λ a L _ old. quiet_shows L d (Rate s) (Rated a) d.position (record { no_label = λ x. refl; no_plan = refl; no_change = λ b. refl }) old.shows refl old.shows.at_position)
+  pub rate_extends : (d new : Memory) (s : ℕ) (r : Result Rating Fault) → r ≡ rate_answer m (ranking_of d) d.planned s → new ≡ after r d d → Extends m d (Rate s) (answered Rated r) new
+  rate_extends d new s r is = quiet_extends d new (Rate s) Rated d.position r (record { no_label = λ x. refl; no_plan = refl; no_change = λ b. refl }) (λ a. refl) (λ a L e at. at) (λ L old. ap (answered Rated) is ∙ rate_right d s L old)
 
   -- Leave
   leave_right : (d : Memory) (L : Log) → Lived m L d → answered Left (leave_answer d.position) ≡ answer m L Leave
   unfolding answer
   leave_right d L old = ap (λ o. answered Left (leave_answer o)) old.shows.at_position
 
-  pub leave_extends : (d : Memory) → Extends m d Leave (answered Left (leave_answer d.position)) (after (leave_answer d.position) d (moved_to d None))
-  leave_extends d = by_result d (moved_to d None) Leave Left _ (leave_right d) (λ a L _ old. quiet_shows L d Leave (Left a) None (record { no_label = λ x. refl; no_plan = refl; no_change = λ b. refl }) old.shows refl refl)
+  pub leave_extends : (d new : Memory) (r : Result ℕ Fault) → r ≡ leave_answer d.position → new ≡ after r d (moved_to d None) → Extends m d Leave (answered Left r) new
+  leave_extends d new r is = quiet_extends d new Leave Left None r (record { no_label = λ x. refl; no_plan = refl; no_change = λ b. refl }) (λ a. refl) (λ a L e at. refl) (λ L old. ap (answered Left) is ∙ leave_right d L old)
 
   -- Look
-  pub look_extends : (d : Memory) → Extends m d Look (Seen (look_answer m d.position d.bars d.planned d.refusals)) d
+  pub look_extends : (d : Memory) (v : View) → v ≡ look_answer m d.position d.bars d.planned d.refusals → Extends m d Look (Seen v) d
   unfolding answer
-  look_extends d L old =
+  look_extends d v is L old =
       let sh = old.shows in
       let bars_is : d.bars ≡ bits (barred L) 64 = whole_set d.bars (barred L) sh.bars_fit (λ k lt. sh.bars_are k) in
       more L d d Look _ old
-      (λ i. Seen (look_answer m (sh.at_position i) (bars_is i) (sh.plan i) (sh.count i)))
-      (quiet_shows L d Look (Seen _) d.position (record { no_label = λ x. refl; no_plan = refl; no_change = λ b. refl }) sh refl sh.at_position)
+      (ap Seen is ∙ λ i. Seen (look_answer m (sh.at_position i) (bars_is i) (sh.plan i) (sh.count i)))
+      (quiet_shows L d Look (Seen v) d.position (record { no_label = λ x. refl; no_plan = refl; no_change = λ b. refl }) sh refl sh.at_position)
 
   -- Bar and lift
   change_right : (d : Memory) (member : Bool) (x : ℕ) (L : Log) → Lived m L d → answered Barred (change_answer m (bars_of d) x member) ≡ answer m L (change_call member x)
@@ -197,32 +197,31 @@ module _ (m : Meaning) (ok : Lawful m) where
       go true is h = ltb-true x m.ceiling is
       go false is h = let z : ◌≡◌ {A = ℕ} 0 1 = cc in absurd (omega arith)
 
-  -- the set that a change leaves is told by the number that holds it
-  pub change_extends : (d : Memory) (x : ℕ) (member : Bool) → (x < m.ceiling → (n : ℕ) × (n < 2 ^ 64) × ((l : ℕ) → has_bit n l ≡ set_label (bars_of d) x member l) × (n ≡ bits (set_label (bars_of d) x member) 64)) → Extends m d (change_call member x) (answered Barred (change_answer m (bars_of d) x member)) (after (change_answer m (bars_of d) x member) d (changed d x member))
-  change_extends d x member has = by_result d (changed d x member) (change_call member x) Barred _ (change_right d member x) (λ a L e old.
+  pub change_extends : (d new : Memory) (x : ℕ) (member : Bool) (r : Result ℕ Fault) → r ≡ change_answer m (bars_of d) x member → new ≡ after r d (changed d x member) → Extends m d (change_call member x) (answered Barred r) new
+  change_extends d new x member r is left = by_result d (changed d x member) new (change_call member x) Barred r left (λ L old. ap (answered Barred) is ∙ change_right d member x L old) (λ a L e old.
       let sh = old.shows in
-      let (n, fits, each, number) = has (label_low x _ a e) in
+      let low : x < 64 = omega (arith, ok.few, label_low x _ a (sym is ∙ e)) in
       let call : Call = change_call member x in
-      let now' : (l : ℕ) → bars_of (changed d x member) l ≡ unwrap_or (says call l) (barred L l) = λ l. ap (λ k. has_bit k l) (sym number) ∙ each l ∙ ap (cond (eqb x l) member) (sh.bars_are l) ∙ said member x l (barred L l) in
+      let now' : (l : ℕ) → bars_of (changed d x member) l ≡ unwrap_or (says call l) (barred L l) = λ l. changed_has d.bars x member sh.bars_fit low l ∙ ap (cond (eqb x l) member) (sh.bars_are l) ∙ said member x l (barred L l) in
       let on : (is_plan call || (stands L && not (changes (barred L) call))) ≡ (stands L && not (changes (barred L) call)) = ap (λ t. t || (stands L && not (changes (barred L) call))) (no_plan_call member x) in
       let plan_is : (d.planned && agree (bars_of d x) member) ≡ (is_plan call || (stands L && not (changes (barred L) call))) =
       ap (λ t. t && agree (bars_of d x) member) sh.plan ∙ ap (λ t. stands L && agree t member) (sh.bars_are x) ∙ ap (λ t. stands L && t) (stays member x (barred L)) ∙ sym on in
-      accepted_shows L d (changed d x member) call (Barred a) sh refl now' (subst (λ k. k < 2 ^ 64) number fits) (sh.at_position ∙ sym (no_move member x (Barred a) (position m L))) plan_is
+      accepted_shows L d (changed d x member) call (Barred a) sh refl now' (bits_lt (set_label (bars_of d) x member) 64) (sh.at_position ∙ sym (no_move member x (Barred a) (position m L))) plan_is
       (λ st. let both = and_parts (stands L) _ (sym on ∙ st) in subst (λ b. Solved m b d.table.cells) (sym (fun_ext (λ l. same_bars m ok (barred L) call (not-true _ both.1) l))) (sh.table_is both.0))
       refl)
 
   -- Plan
-  pub plan_refused : (d : Memory) (f : Fault) → first_fault m ≡ Some f → Extends m d Plan (Refused f) (counted d)
+  pub plan_refused : (d new : Memory) (f : Fault) → first_fault m ≡ Some f → new ≡ counted d → Extends m d Plan (Refused f) new
   unfolding answer
-  plan_refused d f e L old = more L d (counted d) Plan (Refused f) old (sym (ap (λ o. answered Planned (plan_answer o (plan_verdict m (rank m (barred L))))) e)) (refused_shows L d Plan f old.shows)
+  plan_refused d new f e left L old = subst (Lived m (entry Plan (Refused f) ∷ L)) (sym left) (more L d (counted d) Plan (Refused f) old (sym (ap (λ o. answered Planned (plan_answer o (plan_verdict m (rank m (barred L))))) e)) (refused_shows L d Plan f old.shows))
 
-  pub plan_extends : (d : Memory) (t : Table) → first_fault m ≡ None → Solved m (bars_of d) t.cells → Extends m d Plan (Planned (plan_verdict m (ranking_in t.cells).rank)) (with_plan d t)
+  pub plan_extends : (d : Memory) (t : Table) (v : Verdict) → v ≡ plan_verdict m (ranking_in t.cells).rank → first_fault m ≡ None → Solved m (bars_of d) t.cells → Extends m d Plan (Planned v) (with_plan d t)
   unfolding answer
-  plan_extends d t none solved L old =
+  plan_extends d t v is none solved L old =
       let sh = old.shows in
       let solved' : Solved m (barred L) t.cells = subst (λ b. Solved m b t.cells) (fun_ext sh.bars_are) solved in
       more L d (with_plan d t) Plan _ old
-      (ap (λ ρ. Planned (plan_verdict m ρ.rank)) (solved_ranking m (barred L) t.cells solved') ∙ sym (ap (λ o. answered Planned (plan_answer o (plan_verdict m (rank m (barred L))))) none))
+      (ap Planned is ∙ ap (λ ρ. Planned (plan_verdict m ρ.rank)) (solved_ranking m (barred L) t.cells solved') ∙ sym (ap (λ o. answered Planned (plan_answer o (plan_verdict m (rank m (barred L))))) none))
       (accepted_shows L d (with_plan d t) Plan (Planned _) sh refl sh.bars_are sh.bars_fit sh.at_position refl (λ _. solved') refl)
 
   -- an accepted plan is final
@@ -247,9 +246,14 @@ module _ (m : Meaning) (ok : Lawful m) where
     relies = law m ok [] tt;
   }
 
--- the same call, with the result and the memory as the code has them
-pub carried : {A : Type 0} (m : Meaning) (d e e' : Memory) (c : Call) (f : A → Answer) (r r' : Result A Fault) → r ≡ r' → e ≡ e' → Extends m d c (answered f r') e' → Extends m d c (answered f r) e
-carried m d e e' c f r r' is left h = subst (λ x. Extends m d c (answered f x) e) (sym is) (subst (λ x. Extends m d c (answered f r') x) (sym left) h)
+-- a call as it was matched, and its result as the answer that was made of it
+pub told : {A : Type 0} (m : Meaning) (d e : Memory) (c c' : Call) (f : A → Answer) (r : Result A Fault) (a : Answer) → c ≡ c' → MatchResult r (λ x. a ≡ f x) (λ x. a ≡ Refused x) → Extends m d c' (answered f r) e → Extends m d c a e
+told m d e c c' f (Ok x) a call is h = subst (λ q. Extends m d q a e) (sym call) (subst (λ b. Extends m d c' b e) (sym is) h)
+told m d e c c' f (Err x) a call is h = subst (λ q. Extends m d q a e) (sym call) (subst (λ b. Extends m d c' b e) (sym is) h)
+
+-- a new watch that planned has lived through that plan, and holds its game still
+pub planned_anew : {G : Type 0} (meaning : G → Meaning) {game made left : G} {d e : Memory} {v : Verdict} → made ≡ game → Lived (meaning game) [] d → left ≡ made → Extends (meaning made) d Plan (Planned v) e → (left ≡ game) × Lived (meaning game) (entry Plan (Planned v) ∷ []) e
+planned_anew meaning {d} {e} {v} same fresh kept extends = (kept ∙ same, subst (λ x. Extends (meaning x) d Plan (Planned v) e) same extends [] fresh)
 
 -- one more call at the end
 logged_more : (qs : List Call) (rs : List Answer) (q : Call) (r : Answer) (L : Log) → length qs ≡ length rs → logged (qs ++ (q ∷ [])) (rs ++ (r ∷ [])) L ≡ entry q r ∷ logged qs rs L

@@ -1,12 +1,13 @@
 -- What a watch holds beside its game, and what each call leaves in it.
-use Rattle.std.specs.Prelude.{◌≡◌, ℕ, ◌+◌, min, Bool, true, false, not, ◌&&◌, replicate, None, Ok, Err, Option, Result}
-use Rattle.game.specs.Meaning.{Meaning}
+use Rattle.std.specs.Prelude.{◌≡◌, ℕ, ◌+◌, min, Bool, true, false, not, ◌&&◌, replicate, Some, None, Ok, Err, Option, Result}
+use Rattle.game.specs.Meaning.{Meaning, done}
 use Rattle.game.specs.Ranks.{Bars, bits, set_label}
 use Rattle.law.specs.declared.Fault.{Fault}
 use Rattle.law.specs.declared.Verdict.{Verdict}
 use Rattle.law.specs.declared.Call.{Call}
 use Rattle.law.specs.declared.Call.TheVariants.{Bar, Lift}
-use Rattle.law.specs.Answers.{Ranking}
+use Rattle.law.specs.declared.Fault.TheVariants.{NoRun, RunOver, OtherTurn}
+use Rattle.law.specs.Answers.{Ranking, refuse_if}
 use Rattle.law.specs.Log.{behind}
 use Rattle.labelset.specs.Bits.{has_bit}
 use Rattle.solver.specs.Cells.{empty, ranking_in, Solved}
@@ -68,3 +69,13 @@ changed d x member = with_bars d (set_label (bars_of d) x member) (agree (bars_o
 abbrev pub change_call : Bool → ℕ → Call
 change_call true x = Bar x
 change_call false x = Lift x
+
+-- not the turn that is asked for
+abbrev pub other_turn : Bool → Bool → Bool
+other_turn true public = not public
+other_turn false public = public
+
+-- the position of a run that goes on, at the turn that is asked for
+abbrev pub position_at : Meaning → Option ℕ → Bool → Result ℕ Fault
+position_at m None public = Err NoRun
+position_at m (Some p) public = refuse_if (done m p) RunOver (refuse_if (other_turn public (m.public p)) OtherTurn (Ok p))

@@ -8,16 +8,6 @@ use crate::Watch;
 use game::Game;
 use law::{Answer, Call};
 
-// A result as an answer.
-macro_rules! told {
-    ($result:expr, $value:pat => $answer:expr) => {
-        match $result {
-            Ok($value) => $answer,
-            Err(fault) => Answer::Refused(fault),
-        }
-    };
-}
-
 impl<G: Game> Watch<G> {
     // Carries out one call.
     pub fn ask(&mut self, call: Call) -> Answer
@@ -25,15 +15,24 @@ impl<G: Game> Watch<G> {
         ensures extends { Extends (G.meaning self.old.game) self.old.memory call result self.new.memory }
     {
         match call {
-            Call::Plan => told!(self.plan(), verdict => Answer::Planned(verdict)),
-            Call::Open(state) => told!(self.open(state), rank => Answer::Opened(rank)),
-            Call::Reply => told!(self.reply(), (label, rank) => Answer::Replied { label, rank }),
-            Call::Report(label) => told!(self.report(label), state => Answer::Reported(state)),
-            Call::Rate(state) => told!(self.rate(state), rating => Answer::Rated(rating)),
-            Call::Bar(label) => told!(self.bar(label), count => Answer::Barred(count)),
-            Call::Lift(label) => told!(self.lift(label), count => Answer::Barred(count)),
+            Call::Plan => self.plan().map_or_else(Answer::Refused, Answer::Planned),
+            Call::Open(state) => self
+                .open(state)
+                .map_or_else(Answer::Refused, Answer::Opened),
+            Call::Reply => self.reply().map_or_else(
+                Answer::Refused,
+                |(label, rank)| Answer::Replied { label, rank },
+            ),
+            Call::Report(label) => self
+                .report(label)
+                .map_or_else(Answer::Refused, Answer::Reported),
+            Call::Rate(state) => self.rate(state).map_or_else(Answer::Refused, Answer::Rated),
+            Call::Bar(label) => self.bar(label).map_or_else(Answer::Refused, Answer::Barred),
+            Call::Lift(label) => self
+                .lift(label)
+                .map_or_else(Answer::Refused, Answer::Barred),
             Call::Look => Answer::Seen(self.look()),
-            Call::Leave => told!(self.leave(), state => Answer::Left(state)),
+            Call::Leave => self.leave().map_or_else(Answer::Refused, Answer::Left),
         }
     }
 
@@ -45,8 +44,10 @@ impl<G: Game> Watch<G> {
         ensures extends { (L : Log) → Lived (G.meaning self.old.game) L self.old.memory → Lived (G.meaning self.old.game) (log_of result calls.now answers.new L) self.new.memory }
     {
         let n = calls.len().min(answers.len());
-        for i in 0..n {
-            answers[i] = self.ask(calls[i]);
+        // Kept by an index of the answers: after a loop over `answers.iter_mut().zip(calls)`, which was tried, a proof knows
+        // nothing of what it wrote, nor that the answers beyond were left.
+        for (i, call) in calls[..n].iter().enumerate() {
+            answers[i] = self.ask(*call);
         }
         n
     }

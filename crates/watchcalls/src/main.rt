@@ -4,15 +4,10 @@
 use console::{converse, parse_number};
 use game::Game;
 use nim::Nim;
-use sheet::{NO_MOVE, NO_ROW, Sheet};
+use sheet::{NO_MOVE, NO_ROW};
 use std::io::{Read, Write};
 use std::{env, fs};
-
-const SHEET_BYTES: u64 = 65536;
-
-const ROWS: usize = 4096;
-
-const MOVES: usize = 8192;
+use tables::{BYTES, MOVES, ROWS};
 
 fn play<G: Game + Drop>(rt: &HostRuntime, game: G) -> anyhow::Result<()> {
     let mut input = Vec::new(rt.alloc());
@@ -25,48 +20,28 @@ fn play<G: Game + Drop>(rt: &HostRuntime, game: G) -> anyhow::Result<()> {
 fn play_sheet(rt: &HostRuntime, path: &str) -> anyhow::Result<()> {
     let mut bytes = Vec::new(rt.alloc());
     let _ = fs::open(rt, path)?
-        .take(SHEET_BYTES)
+        .take(BYTES as u64)
         .read_to_end(&mut bytes)?;
     let mut rows = vec![in rt.alloc(); NO_ROW; ROWS]?;
     let mut moves = vec![in rt.alloc(); NO_MOVE; MOVES]?;
-    match reader::read(bytes.as_slice(), rows.as_mut_slice(), moves.as_mut_slice()) {
-        Ok(counts) => {
-            let states = usize::from(counts.states).min(rows.len());
-            let arcs = counts.moves.min(moves.len());
-            play(
-                rt,
-                Sheet {
-                    rows: &rows[0..states],
-                    moves: &moves[0..arcs],
-                },
-            )
-        }
+    match tables::open(bytes.as_slice(), rows.as_mut_slice(), moves.as_mut_slice()) {
+        Ok(sheet) => play(rt, sheet),
         Err(fault) => {
-            println!(rt;
-                "REFUSED {} {} {}",
-                fault.number(),
-                fault.index(),
-                fault.offset()
-            )?;
+            println!(rt; "{fault}")?;
             Ok(())
         }
     }
 }
 
-fn run(rt: &HostRuntime) -> anyhow::Result<()> {
-    let words: Vec<String> = env::args(rt)?.skip(1).collect(rt.alloc())?;
-    if words.len() == 2 && words[0].as_str() == "sheet" {
-        return play_sheet(rt, words[1].as_str());
-    }
-    if words.len() == 2 && words[0].as_str() == "nim" {
-        if let Some(matches) = parse_number(words[1].as_bytes()) {
-            return play(rt, Nim { matches });
+fn main(rt: HostRuntime) -> anyhow::Result<()> {
+    let words: Vec<String> = env::args(&rt)?.skip(1).collect(rt.alloc())?;
+    if let [kind, name] = words.as_slice() {
+        match (kind.as_str(), parse_number(name.as_bytes())) {
+            ("sheet", _) => return play_sheet(&rt, name.as_str()),
+            ("nim", Some(matches)) => return play(&rt, Nim { matches }),
+            _ => {}
         }
     }
     println!(rt; "usage: watchcalls sheet FILE | nim N")?;
     Ok(())
-}
-
-fn main(rt: HostRuntime) -> anyhow::Result<()> {
-    run(&rt)
 }

@@ -7,7 +7,7 @@ ghost use Rattle.worked.specs.House.{house, house_rows, house_moves};
 ghost use Rattle.worked.specs.Cases.{WorkedCases, answers};
 
 use law::{Answer, Call};
-use sheet::{Move, Row, Sheet};
+use sheet::{Move, NO_ROW, Row, Sheet};
 use watch::watch_all;
 
 // An unnamed state of the house game, whose record has its empty name at `place`.
@@ -17,9 +17,9 @@ fn state(flags: u8, place: usize, first: usize, count: usize) -> Row
     Row {
         flags,
         place,
-        len: 0,
         first,
         count,
+        ..NO_ROW
     }
 }
 

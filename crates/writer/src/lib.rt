@@ -1,269 +1,266 @@
 // The writer of sheets: two tables and the bytes that hold the names into an output that the caller lends.
 #![tactic(auto)]
 
-ghost use Rattle.std.specs.Prelude.{◌≡◌, ◌+◌, ◌≤◌, length, take, drop, IfOk, None};
-ghost use Rattle.std.specs.List.{AllByRecursion};
+ghost use Rattle.std.specs.Prelude.{◌≡◌, ◌^◌, ◌<◌, ◌≤◌, length, sum_by, IfOk, IfErr, None};
+ghost use Rattle.std.specs.List.{flat_map};
 ghost use Rattle.format.specs.Format.{head_bytes, state_bytes, move_bytes, end_bytes, encode};
-ghost use Rattle.format.specs.Tables.{state_in, arc_of, sheet_in};
-ghost use Rattle.format.specs.Writing.{moves_sound, name_sound, moves_next, row_sound, first_unsound, over, put, write_result};
+ghost use Rattle.format.specs.Tables.{state_in, arc_of};
+ghost use Rattle.format.specs.Writing.{moves_sound, name_sound, moves_next, row_sound, over, write_result};
 ghost use Rattle.format.specs.Judgement.{WriteExactly};
 ghost use Rattle.format.specs.Laws.{Restores};
-ghost use Rattle.writer.specs.Parts.{state_of, rows_bytes, moves_bytes, arcs_bytes, Named, verdict, move_sound};
+ghost use Rattle.writer.specs.Parts.{moves_bytes, move_fits, Named, name_len};
+ghost use Rattle.writer.specs.Judged.{first_fault, sheet_of, states_bytes, arcs_bytes, Refused};
 
 use format::WriteFault;
 use sheet::{Move, Row};
 
-// The first record, at the front of `out`.
-fn write_head(out: &mut [u8], size: u16)
+// The parts of a record one behind the other, at the front of `out`. Answers their length.
+//
+// Kept as loops, here and where records follow one another: by a rule of the project each is lent the rest of the
+// output, from where the last one ended.
+fn put_record(parts: &[&[u8]], out: &mut [u8]) -> usize
+    requires { length (flat_map (λ p. p.now) parts.now) ≤ length out.old }
+    ensures value { result ≡ length (flat_map (λ p. p.now) parts.now) }
+    ensures after { out.new ≡ over (flat_map (λ p. p.now) parts.now) out.old }
+{
+    let mut at = 0;
+    for part in parts {
+        let end = at + part.len();
+        out[at..end].copy_from_slice(part);
+        at = end;
+    }
+    at
+}
+
+// The first record.
+fn put_head(size: u16, out: &mut [u8]) -> usize
     requires { 5 ≤ length out.old }
-    ensures { out.new ≡ over (head_bytes size) out.old }
+    ensures value { result ≡ 5 }
+    ensures after { out.new ≡ over (head_bytes size) out.old }
 {
-    out[0..2].copy_from_slice(records::HEAD_MARK);
-    out[2] = 1;
-    out[3] = (size % 256) as u8;
-    out[4] = (size / 256) as u8;
+    put_record(&[records::HEAD_MARK, &[1], &size.to_le_bytes()], out)
 }
 
-// A state's record, at the front of `out`.
-fn write_state(out: &mut [u8], flags: u8, name: &[u8])
-    requires { (length name.now ≤ 16) × (4 + length name.now ≤ length out.old) }
-    ensures { out.new ≡ over (state_bytes (state_of flags name.now)) out.old }
-{
-    out[0..2].copy_from_slice(records::STATE_MARK);
-    out[2] = flags;
-    out[3] = name.len() as u8;
-    out[4..4 + name.len()].copy_from_slice(name);
-}
-
-// A move's record, at the front of `out`.
-fn write_move(out: &mut [u8], source: u16, m: Move)
+// The record of one move.
+fn put_move(source: u16, m: Move, out: &mut [u8]) -> usize
     requires { 7 ≤ length out.old }
-    ensures { out.new ≡ over (move_bytes (arc_of source m)) out.old }
+    ensures value { result ≡ 7 }
+    ensures after { out.new ≡ over (move_bytes (arc_of source m)) out.old }
 {
-    out[0..2].copy_from_slice(records::MOVE_MARK);
-    out[2] = (source % 256) as u8;
-    out[3] = (source / 256) as u8;
-    out[4] = m.label;
-    out[5] = (m.target % 256) as u8;
-    out[6] = (m.target / 256) as u8;
+    put_record(
+        &[
+            records::MOVE_MARK,
+            &source.to_le_bytes(),
+            &[m.label],
+            &m.target.to_le_bytes(),
+        ],
+        out,
+    )
 }
 
-// The last record, at the front of `out`.
-fn write_end(out: &mut [u8], count: u32)
+// The last record.
+fn put_end(count: u32, out: &mut [u8]) -> usize
     requires { 6 ≤ length out.old }
-    ensures { out.new ≡ over (end_bytes count) out.old }
+    ensures value { result ≡ 6 }
+    ensures after { out.new ≡ over (end_bytes count) out.old }
 {
-    let low = count % 65536;
-    let high = count / 65536;
-    out[0..2].copy_from_slice(records::END_MARK);
-    out[2] = (low % 256) as u8;
-    out[3] = (low / 256) as u8;
-    out[4] = (high % 256) as u8;
-    out[5] = (high / 256) as u8;
+    put_record(&[records::END_MARK, &count.to_le_bytes()], out)
 }
 
-// The record of one state at `at`: the rest of the output from there is lent on. Answers where it ends.
-fn put_state(row: Row, names: &[u8], out: &mut [u8], at: usize) -> usize
-    requires named { Named names.now row }
-    requires fits { at + length (state_bytes (state_in names.now row)) ≤ length out.old }
-    ensures value { result ≡ at + length (state_bytes (state_in names.now row)) }
-    ensures after { out.new ≡ put at (state_bytes (state_in names.now row)) out.old }
+// The records of one row's moves. Answers their length.
+fn put_moves(source: u16, moves: &[Move], out: &mut [u8]) -> usize
+    requires { length (moves_bytes source moves.now) ≤ length out.old }
+    ensures value { result ≡ length (moves_bytes source moves.now) }
+    ensures after { out.new ≡ over (moves_bytes source moves.now) out.old }
 {
-    let place = row.place;
-    let end = place + row.len;
-    let name = &names[place..end];
-    write_state(&mut out[at..], row.flags, name);
-    at + 4 + name.len()
-}
-
-// The records of the states from `start` on, each at the end of the last. Answers where they end.
-fn put_states(rows: &[Row], names: &[u8], out: &mut [u8], start: usize) -> usize
-    requires named { AllByRecursion (Named names.now) rows.now }
-    requires fits { start + length (rows_bytes names.now rows.now) ≤ length out.old }
-    ensures value { result ≡ start + length (rows_bytes names.now rows.now) }
-    ensures after { out.new ≡ put start (rows_bytes names.now rows.now) out.old }
-{
-    let mut at = start;
-    for row in rows {
-        at = put_state(*row, names, out, at);
-    }
-    at
-}
-
-// The record of one move at `at`. Answers where it ends.
-fn put_move(source: u16, m: Move, out: &mut [u8], at: usize) -> usize
-    requires fits { at + 7 ≤ length out.old }
-    ensures value { result ≡ at + 7 }
-    ensures after { out.new ≡ put at (move_bytes (arc_of source m)) out.old }
-{
-    write_move(&mut out[at..], source, m);
-    at + 7
-}
-
-// The records of one row's moves from `start` on. Answers where they end.
-fn put_moves(source: u16, moves: &[Move], out: &mut [u8], start: usize) -> usize
-    requires fits { start + length (moves_bytes source moves.now) ≤ length out.old }
-    ensures value { result ≡ start + length (moves_bytes source moves.now) }
-    ensures after { out.new ≡ put start (moves_bytes source moves.now) out.old }
-{
-    let mut at = start;
+    let mut at = 0;
     for m in moves {
-        at = put_move(source, *m, out, at);
+        at += put_move(source, *m, &mut out[at..]);
     }
     at
 }
 
-// The records of the `count` moves from `first` on, at `at`. Answers where they end.
-fn put_row_moves(
-    source: u16,
-    moves: &[Move],
-    first: usize,
-    count: usize,
-    out: &mut [u8],
-    at: usize,
-) -> usize
-    requires inside { first + count ≤ length moves.now }
-    requires fits { at + length (moves_bytes source (take count (drop first moves.now))) ≤ length out.old }
-    ensures value { result ≡ at + length (moves_bytes source (take count (drop first moves.now))) }
-    ensures after { out.new ≡ put at (moves_bytes source (take count (drop first moves.now))) out.old }
+// Whether the label lies below 64, and the target below `size`.
+fn move_fits(m: Move, size: usize) -> bool
+    ensures { result ≡ move_fits size m }
 {
-    let end = first + count;
-    put_moves(source, &moves[first..end], out, at)
+    m.label < records::LABELS && usize::from(m.target) < size
 }
 
-// The last record at `at`.
-fn put_end(count: u32, out: &mut [u8], at: usize)
-    requires { at + 6 ≤ length out.old }
-    ensures { out.new ≡ put at (end_bytes count) out.old }
-{
-    write_end(&mut out[at..], count);
-}
-
-// The records of all moves from `start` on, row after row. Answers where they end.
-fn put_all_moves(rows: &[Row], moves: &[Move], names: &[u8], out: &mut [u8], start: usize) -> usize
-    requires sized { length rows.now ≤ 4096 }
-    requires good { first_unsound 0 0 (length rows.now) names.now moves.now rows.now ≡ None }
-    requires fits { start + length (arcs_bytes 0 rows.now moves.now) ≤ length out.old }
-    ensures value { result ≡ start + length (arcs_bytes 0 rows.now moves.now) }
-    ensures after { out.new ≡ put start (arcs_bytes 0 rows.now moves.now) out.old }
-{
-    let mut at = start;
-    let mut first = 0;
-    for (i, row) in rows.iter().enumerate() {
-        at = put_row_moves(i as u16, moves, first, row.count, out, at);
-        first += row.count;
-    }
-    at
-}
-
-// Whether a label from `low` on lies below 64, and the target below `size`.
-fn move_sound(m: Move, low: u8, size: usize) -> bool
-    ensures { result ≡ move_sound size low m }
-{
-    low <= m.label && m.label < 64 && (m.target as usize) < size
-}
-
-// Whether labels rise strictly below 64 and targets lie below `size`.
+// Whether each move fits, and labels rise strictly.
 fn moves_sound(moves: &[Move], size: usize) -> bool
     ensures { result ≡ moves_sound size 0 moves.now }
 {
-    let mut low: u8 = 0;
-    for m in moves {
-        if !move_sound(*m, low, size) {
-            return false;
+    moves.iter().all(|m| move_fits(*m, size)) && moves.is_sorted_by(|a, b| a.label < b.label)
+}
+
+// The tables of a sheet, whatever they hold.
+#[derive(Clone, Copy)]
+struct Tables<'a> {
+    rows: &'a [Row],
+    moves: &'a [Move],
+    names: &'a [u8],
+}
+
+impl<'a> Tables<'a> {
+    // Whether a reading can give the row's flags and name.
+    fn name_sound(&self, row: Row) -> bool
+        ensures { result ≡ name_sound self.now.names.now row }
+    {
+        let name = self
+            .names
+            .get(row.place..)
+            .and_then(|rest| rest.get(..row.len));
+        records::known_flags(row.flags)
+            && row.len <= usize::from(records::NAME)
+            && name.is_some_and(records::printable)
+    }
+
+    // Whether the row's moves are the next ones of the table, from `first` on, and such as a reading gives.
+    fn moves_next(&self, row: Row, first: usize) -> bool
+        ensures { result ≡ moves_next (length self.now.rows.now) self.now.moves.now first row }
+    {
+        let own = self
+            .moves
+            .get(first..)
+            .and_then(|rest| rest.get(..row.count));
+        row.first == first && own.is_some_and(|moves| moves_sound(moves, self.rows.len()))
+    }
+
+    // Whether a reading can give the row behind rows that have the moves before `first`.
+    fn row_sound(&self, row: Row, first: usize) -> bool
+        ensures { result ≡ row_sound (length self.now.rows.now) self.now.names.now self.now.moves.now first row }
+    {
+        self.name_sound(row) && self.moves_next(row, first)
+    }
+
+    // The first row that no reading gives, or the number of rows if moves are left over.
+    fn first_fault(&self) -> Option<usize>
+        ensures { result ≡ first_fault self.now }
+    {
+        // Kept as a loop: a row is judged by the moves of all rows before it, and a fold over row and number reads worse.
+        let mut first = 0;
+        for (i, row) in self.rows.iter().enumerate() {
+            if !self.row_sound(*row, first) {
+                return Some(i);
+            }
+            first += row.count;
         }
-        low = m.label + 1;
+        (first != self.moves.len()).then_some(self.rows.len())
     }
-    true
-}
 
-// Whether a reading can give the row's flags and name.
-fn name_sound(row: Row, names: &[u8]) -> bool
-    ensures { result ≡ name_sound names.now row }
-{
-    if !records::known_flags(row.flags) || row.len > 16 {
-        return false;
-    }
-    if row.place > names.len() || row.len > names.len() - row.place {
-        return false;
-    }
-    let place = row.place;
-    let end = place + row.len;
-    records::printable(&names[place..end])
-}
-
-// Whether the row's moves are the next ones of the table, and such as a reading gives.
-fn moves_next(row: Row, moves: &[Move], size: usize, first: usize) -> bool
-    requires { first ≤ length moves.now }
-    ensures { result ≡ moves_next size moves.now first row }
-{
-    if row.first != first || row.count > moves.len() - first {
-        return false;
-    }
-    let end = first + row.count;
-    moves_sound(&moves[first..end], size)
-}
-
-// Whether a reading can give the row behind rows that have the moves before `first`.
-fn row_sound(row: Row, moves: &[Move], names: &[u8], size: usize, first: usize) -> bool
-    requires { first ≤ length moves.now }
-    ensures { result ≡ row_sound size names.now moves.now first row }
-{
-    name_sound(row, names) && moves_next(row, moves, size, first)
-}
-
-// The length of the states' records, or the first row that no reading gives.
-fn judge(rows: &[Row], moves: &[Move], names: &[u8]) -> Result<usize, WriteFault>
-    requires { length rows.now ≤ 4096 }
-    ensures { result ≡ verdict (first_unsound 0 0 (length rows.now) names.now moves.now rows.now) (length (rows_bytes names.now rows.now)) }
-{
-    let mut total = 0;
-    let mut first = 0;
-    for (i, row) in rows.iter().enumerate() {
-        if !row_sound(*row, moves, names, rows.len(), first) {
-            return Err(WriteFault::Unsound { row: i });
+    // The tables, judged, or why no reading gives them.
+    fn judged(&self) -> Result<Sound<'a>, WriteFault>
+        ensures kept { IfOk result (λ s. s.tables ≡ self.now) }
+        ensures refused { IfErr result (λ e. Refused e self.now) }
+    {
+        if !(1..=usize::from(records::STATES)).contains(&self.rows.len()) {
+            return Err(WriteFault::Size);
         }
-        total += 4 + row.len;
-        first += row.count;
+        match self.first_fault() {
+            Some(row) => Err(WriteFault::Unsound { row }),
+            None => Ok(Sound { tables: *self }),
+        }
     }
-    if first != moves.len() {
-        return Err(WriteFault::Unsound { row: rows.len() });
+
+    // The record of one state.
+    fn put_state(&self, row: Row, out: &mut [u8]) -> usize
+        requires named { Named self.now.names.now row }
+        requires fits { length (state_bytes (state_in self.now.names.now row)) ≤ length out.old }
+        ensures value { result ≡ length (state_bytes (state_in self.now.names.now row)) }
+        ensures after { out.new ≡ over (state_bytes (state_in self.now.names.now row)) out.old }
+    {
+        let end = row.place + row.len;
+        let name = &self.names[row.place..end];
+        // Kept, as are those below: the cast is proved to lose nothing.
+        put_record(
+            &[records::STATE_MARK, &[row.flags, name.len() as u8], name],
+            out,
+        )
     }
-    Ok(total)
 }
 
-// Writes a sheet that is sound and has room.
-fn write_all(rows: &[Row], moves: &[Move], names: &[u8], out: &mut [u8])
-    requires sized { (1 ≤ length rows.now) × (length rows.now ≤ 4096) }
-    requires good { first_unsound 0 0 (length rows.now) names.now moves.now rows.now ≡ None }
-    requires fits { length (encode (sheet_in names.now rows.now moves.now)) ≤ length out.old }
-    ensures { out.new ≡ over (encode (sheet_in names.now rows.now moves.now)) out.old }
+// The length of all names.
+fn names_len(rows: &[Row]) -> usize
+    requires { sum_by name_len rows.now < 2 ^ 64 }
+    ensures { result ≡ sum_by name_len rows.now }
 {
-    write_head(out, rows.len() as u16);
-    let at = put_states(rows, names, out, 5);
-    let end = put_all_moves(rows, moves, names, out, at);
-    put_end(moves.len() as u32, out, end);
+    rows.iter().map(|row| row.len).sum()
 }
 
-// What `write` does: the one equality that its laws follow from.
-fn write_tables(
-    rows: &[Row],
-    moves: &[Move],
-    names: &[u8],
-    out: &mut [u8],
-) -> Result<usize, WriteFault>
-    ensures { (result, out.new) ≡ write_result rows.now moves.now names.now out.old }
-{
-    if rows.len() < 1 || rows.len() > 4096 {
-        return Err(WriteFault::Size);
+// Tables that a reading gives.
+#[derive(Clone, Copy)]
+struct Sound<'a> {
+    tables: Tables<'a>,
+    ghost some: { 1 ≤ length tables.rows.now },
+    ghost few: { length tables.rows.now ≤ 4096 },
+    ghost good: { first_fault tables ≡ None },
+}
+
+impl Sound<'_> {
+    // The length of their sheet.
+    fn len(&self) -> usize
+        ensures { result ≡ length (encode (sheet_of self.now.tables)) }
+    {
+        let Tables { rows, moves, .. } = self.tables;
+        11 + 4 * rows.len() + names_len(rows) + 7 * moves.len()
     }
-    let states = judge(rows, moves, names)?;
-    let total = 11 + states + 7 * moves.len();
-    if out.len() < total {
-        return Err(WriteFault::Room);
+
+    // The records of the states. Answers their length.
+    fn put_states(&self, out: &mut [u8]) -> usize
+        requires { length (states_bytes self.now.tables) ≤ length out.old }
+        ensures value { result ≡ length (states_bytes self.now.tables) }
+        ensures after { out.new ≡ over (states_bytes self.now.tables) out.old }
+    {
+        let tables = self.tables;
+        let mut at = 0;
+        for row in tables.rows {
+            at += tables.put_state(*row, &mut out[at..]);
+        }
+        at
     }
-    write_all(rows, moves, names, out);
-    Ok(total)
+
+    // The records of the moves, row after row. Answers their length.
+    fn put_all_moves(&self, out: &mut [u8]) -> usize
+        requires { length (arcs_bytes self.now.tables) ≤ length out.old }
+        ensures value { result ≡ length (arcs_bytes self.now.tables) }
+        ensures after { out.new ≡ over (arcs_bytes self.now.tables) out.old }
+    {
+        let Tables { rows, moves, .. } = self.tables;
+        let mut at = 0;
+        for (i, row) in rows.iter().enumerate() {
+            let end = row.first + row.count;
+            at += put_moves(i as u16, &moves[row.first..end], &mut out[at..]);
+        }
+        at
+    }
+
+    // Their sheet, at the front of an output that has room for it.
+    fn put(&self, out: &mut [u8])
+        requires { length (encode (sheet_of self.now.tables)) ≤ length out.old }
+        ensures { out.new ≡ over (encode (sheet_of self.now.tables)) out.old }
+    {
+        let Tables { rows, moves, .. } = self.tables;
+        let mut at = put_head(rows.len() as u16, out);
+        at += self.put_states(&mut out[at..]);
+        at += self.put_all_moves(&mut out[at..]);
+        put_end(moves.len() as u32, &mut out[at..]);
+    }
+}
+
+impl Tables<'_> {
+    // What `write` does: the one equality that its laws follow from.
+    fn write(&self, out: &mut [u8]) -> Result<usize, WriteFault>
+        ensures { (result, out.new) ≡ write_result self.now.rows.now self.now.moves.now self.now.names.now out.old }
+    {
+        let sound = self.judged()?;
+        let len = sound.len();
+        if out.len() < len {
+            return Err(WriteFault::Room);
+        }
+        sound.put(out);
+        Ok(len)
+    }
 }
 
 // Writes the sheet and answers its length; a refusal leaves the output as it was. Tables are written exactly if the
@@ -280,5 +277,6 @@ pub fn write(
     ensures inside { IfOk result (λ len. len ≤ length out.old) }
     ensures restored { Restores rows.now moves.now names.now (result, out.new) }
 {
-    write_tables(rows, moves, names, out)
+    let tables = Tables { rows, moves, names };
+    tables.write(out)
 }

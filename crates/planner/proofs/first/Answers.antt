@@ -1,5 +1,6 @@
-use Rattle.std.proofs.Common.{sym, take_all}
+use Rattle.std.proofs.Common.{take, ap, ◌∙◌}
+use Rattle.std.proofs.lemmas.List.{take_min}
 use Rattle.planner.proofs.first.Goals as goal
 
-pub returns-else-input-gt-INPUT : goal.returns-else-input-gt-INPUT
-returns-else-input-gt-INPUT c = sym (take_all 65536 c.args.input.now c.if-input-gt-INPUT.false)
+pub returns : goal.returns
+returns c = ap (λ n. take n c.args.input.now) c.min.ensures ∙ take_min 65536 c.args.input.now

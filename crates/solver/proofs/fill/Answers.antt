@@ -1,37 +1,23 @@
-use Rattle.std.proofs.Common.{ℕ, get_or, replicate, refl, ap, ◌∙◌, add-one, arith}
+use Rattle.std.proofs.Common.{get_or, refl, ap, ◌∙◌, subst, rules, arith}
 use Rattle.labelset.specs.Bits.{has_bit}
-use Rattle.solver.specs.Run.{has_cell}
-use Rattle.solver.proofs.Lists.{getD_zeros}
-use Rattle.solver.proofs.Counts.{many_le}
+use Rattle.solver.specs.Cells.{empty}
+use Rattle.solver.specs.Known.{Filled}
+use Rattle.solver.proofs.Lists.{get_or-replicate_any}
+use Rattle.solver.proofs.Begins.{none_linked, begun_start, begun_at}
 use Rattle.solver.proofs.Ends.{last_layer}
-use Rattle.solver.proofs.Begins.{zero_linked, begun_at}
 use Rattle.solver.proofs.fill.Goals as goal
 
 pub link_all-requires : goal.link_all-requires
-link_all-requires g c = record { few = c.requires.few; before = zero_linked (g.G.Game.meaning c.args.game.now) (has_bit c.args.bars) (replicate 4096 0) (replicate 262144 0) (getD_zeros 4096) }
+link_all-requires g c = none_linked 4096 262144
 
 pub begin-requires : goal.begin-requires
-begin-requires g c = record { few = c.requires.few; room = omega (arith, c.requires.room, c.clear.auto.cells); blank = c.clear.ensures; none = refl }
+begin-requires g c = begun_start (g.G.Game.lawful c.args.board.now.game.now) (omega (arith, c.requires, c.fill.ensures.len)) (λ s. ap (λ x. get_or x s empty) (c.fill.ensures.after (λ y e. e)) ∙ get_or-replicate_any _ empty s) c.new.ensures (get_or-replicate_any 4096 0)
 
-pub loop-lo-init : goal.loop-lo-init
-loop-lo-init g c = (begun_at (g.G.Game.meaning c.args.game.now) (g.G.Game.lawful c.args.game.now) (has_bit c.args.bars) c.begin.new.cells c.begin.new.work.queue c.begin.new.work.ptr c.begin.new.work.tail c.begin.ensures.after (λ s. ap (λ (x : _). get_or {A = ℕ} x s 0) c.begin.ensures.ptr ∙ getD_zeros 4096 s), omega arith)
+pub loop-from-init : goal.loop-from-init
+loop-from-init g c = record { at = begun_at (g.G.Game.lawful c.args.board.now.game.now) (has_bit c.args.board.now.bars) c.begin.ensures.begun; lent = refl; low = omega arith }
 
-pub overflow_add-k : goal.overflow_add-k
-overflow_add-k g c = omega (arith, c.loop-lo-test.true, c.loop-lo.invariant.1, c.requires.few, c.loop-lo.invariant.0.counted, many_le (has_cell c.loop-lo.cells) (g.G.Game.meaning c.args.game.now).size)
-
-pub layer-requires : goal.layer-requires
-layer-requires g c = record {
-  few = c.requires.few;
-  room = omega (arith, c.requires.room, c.clear.auto.cells, c.begin.auto.cells, c.loop-lo.auto.cells);
-  linked = c.link_all.ensures;
-  at = (c.loop-lo.k, add-one c.loop-lo.k, c.loop-lo.invariant.0);
-}
-
-pub loop-lo-smaller : goal.loop-lo-smaller
-loop-lo-smaller g c = omega (arith, c.loop-lo-test.true, c.requires.few, c.loop-lo.invariant.0.counted, many_le (has_cell c.loop-lo.cells) (g.G.Game.meaning c.args.game.now).size)
-
-pub loop-lo-preserved : goal.loop-lo-preserved
-loop-lo-preserved g c = (c.layer.ensures, omega (arith, c.loop-lo.invariant.1, c.loop-lo-test.true))
+pub invariant_of-layer : goal.invariant_of-layer
+invariant_of-layer g c = record { late = omega arith; linked = c.link_all.ensures }
 
 pub returns : goal.returns
-returns g c = last_layer (g.G.Game.meaning c.args.game.now) (g.G.Game.lawful c.args.game.now) (has_bit c.args.bars) c.loop-lo.k c.loop-lo.lo c.loop-lo.work.tail c.loop-lo.cells c.loop-lo.work.queue c.loop-lo.work.ptr c.loop-lo.invariant.0 c.loop-lo-test.false
+returns g c = subst (Filled (g.G.Game.meaning c.args.board.now.game.now) (has_bit c.args.board.now.bars)) (search rules) (last_layer (g.G.Game.lawful c.args.board.now.game.now) c.loop-from.invariant.at (omega (arith, c.len.ensures.value, c.loop-from-test.false)))

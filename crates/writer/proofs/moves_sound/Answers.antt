@@ -1,30 +1,23 @@
-use Rattle.std.proofs.Common.{◌≡◌, ◌+◌, true, false, get_or, drop, sym, ◌∙◌, arith}
-use Rattle.std.proofs.lemmas.List.{at_drop_more, at_drop_all}
-use Rattle.sheet.specs.Sheets.{zero_move}
-use Rattle.format.specs.Writing.{moves_sound}
-use Rattle.writer.specs.Parts.{move_sound}
-use Rattle.writer.proofs.Sizes.{sound_more, sound_not}
+use Rattle.std.proofs.Common.{◌≡◌, ◌&&◌, ltb, sym, ap, ◌∙◌, rules, tests}
+use Rattle.std.specs.List.{list_all}
+use Rattle.std.proofs.lemmas.Iterator.{YieldsList-from_slice}
+use Rattle.std.proofs.lemmas.Iterator.Search.{all_from_yields_List}
+use Rattle.std.proofs.lemmas.List.Sorted.{answers_always}
+use Rattle.writer.specs.Parts.{move_fits}
+use Rattle.writer.proofs.Moves.{rises, sound_split, rises_is}
 use Rattle.writer.proofs.moves_sound.Goals as goal
 
-pub returns-then-not-move_sound : goal.returns-then-not-move_sound
-returns-then-not-move_sound c =
+pub returns-then-all : goal.returns-then-all
+returns-then-all c =
     let ms = c.args.moves.now in
-    let i = c.loop-m.m-index in
     let size = c.args.size in
-    let low = c.loop-m.low in
-    let m = get_or ms i zero_move in
-    let t : move_sound size low m ≡ false = sym c.move_sound.ensures ∙ c.if-not-move_sound.true in
-    sym (sound_not size low m (drop (i + 1) ms) t) ∙ sym (at_drop_more (moves_sound size low) ms i zero_move (omega arith)) ∙ c.loop-m.invariant
+    let each : c.all.result ≡ list_all (move_fits size) ms = all_from_yields_List (move_fits size) _ _ _ c.all.ensures.ran (YieldsList-from_slice ms cc) (λ x b q k. search rules) in
+    let rise = rises_is ms c.is_sorted_by.result (c.is_sorted_by.ensures.cases (λ x y. ltb x.label y.label) (answers_always _ _ _ (λ f a r g h. search (rules, tests)))) in
+    rise ∙ sym (sound_split size 0 ms ∙ ap (λ b. b && rises 0 ms) (sym each ∙ c.if-all.true))
 
-pub loop-m-preserved : goal.loop-m-preserved
-loop-m-preserved c =
+pub returns-else-all : goal.returns-else-all
+returns-else-all c =
     let ms = c.args.moves.now in
-    let i = c.loop-m.m-index in
     let size = c.args.size in
-    let low = c.loop-m.low in
-    let m = get_or ms i zero_move in
-    let t : move_sound size low m ≡ true = sym c.move_sound.ensures ∙ c.if-not-move_sound.false in
-    sym (sound_more size low m (drop (i + 1) ms) t) ∙ sym (at_drop_more (moves_sound size low) ms i zero_move (omega arith)) ∙ c.loop-m.invariant
-
-pub returns : goal.returns
-returns c = sym (at_drop_all (moves_sound c.args.size c.loop-m.low) c.args.moves.now c.loop-m.m-index (omega arith)) ∙ c.loop-m.invariant
+    let each : c.all.result ≡ list_all (move_fits size) ms = all_from_yields_List (move_fits size) _ _ _ c.all.ensures.ran (YieldsList-from_slice ms cc) (λ x b q k. search rules) in
+    c.if-all.false ∙ sym (sound_split size 0 ms ∙ ap (λ b. b && rises 0 ms) (sym each ∙ c.if-all.false))

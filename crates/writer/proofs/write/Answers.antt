@@ -12,7 +12,7 @@ returns c =
     let ms = c.args.moves.now in
     let names = c.args.names.now in
     let out = c.args.out.now in
-    let v = c.write_tables.ensures in
+    let v = c.write.ensures in
     let e = subst (λ (t : Result ℕ WriteFault × List ℕ). WriteExactly rows ms names out t) (sym v) (write_exactly rows ms names out) in
     record {
       value = v;

@@ -1,5 +1,6 @@
+use Rattle.std.proofs.Common.{rules}
 use Rattle.console.proofs.Back.{reads_back}
 use Rattle.console.proofs.calls.parse_call.Goals as goal
 
-pub returns : goal.returns
-returns c = record { value = c.read_call.ensures; back = reads_back _ _ c.read_call.ensures }
+pub returns-clause-back : goal.returns-clause-back
+returns-clause-back c = reads_back _ _ (search rules)

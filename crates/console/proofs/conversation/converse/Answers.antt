@@ -13,12 +13,3 @@ returns g c =
           (c.as_slice-2.ensures.value ∙ (c.in_ok-calls.ensures ∙ ap readable (c.as_slice.ensures.value ∙ lines))) c.in_ok-answers.ensures (c.as_slice-3.ensures.value ∙ lines) c.as_slice-4.ensures.value c.show_answers.ensures;
       complete = read_back;
     }
-
-pub returns-in_err-lines-clause-complete : goal.returns-in_err-lines-clause-complete
-returns-in_err-lines-clause-complete g c = read_back
-
-pub returns-in_err-calls-clause-complete : goal.returns-in_err-calls-clause-complete
-returns-in_err-calls-clause-complete g c = read_back
-
-pub returns-in_err-answers-clause-complete : goal.returns-in_err-answers-clause-complete
-returns-in_err-answers-clause-complete g c = read_back

@@ -1,34 +1,14 @@
-use Rattle.std.proofs.Common.{[], ◌∷◌, ◌++◌, vec_items, Option, sym, ap, ◌∙◌, arith}
-use Rattle.law.specs.declared.Call.{Call}
-use Rattle.console.proofs.Lines.{leads_feed, leads_more, leads_last, leads_all}
+use Rattle.std.proofs.Common.{vec_items, not, ap, ◌∙◌, rules}
+use Rattle.console.proofs.Lines.{tested, ended, all_read, one_more_read}
 use Rattle.console.proofs.conversation.read_calls.Goals as goal
-use Rattle.console.proofs.conversation.read_calls.Goals.{then-ends_line+in_ok-push, else-ends_line, then-start-input+in_ok-push-2, else-start-input}
-
-pub loop-i-preserved : goal.loop-i-preserved
-loop-i-preserved c =
-    let found = vec_items c.loop-i.lines in
-    let after = vec_items c.if-ends_line.lines in
-    elim c.if-ends_line.branch [
-      | then-ends_line+in_ok-push w ↦ (
-        omega (arith, w.start-is),
-        leads_feed found after c.args.input.now c.loop-i.start c.if-ends_line.start c.loop-i.i c.loop-i-test.true (sym w.if-ends_line.ensures) w.start-is
-            (ap vec_items w.lines-is ∙ (w.in_ok-push.ensures.items ∙ ap (λ (o : Option Call). found ++ (o ∷ [])) w.parse_call.ensures.value)) c.loop-i.invariant.1,
-      )
-      | else-ends_line w ↦ (
-        omega (arith, w.start-is),
-        leads_more found after c.args.input.now c.loop-i.start c.if-ends_line.start c.loop-i.i c.loop-i.invariant.0 c.loop-i-test.true (sym w.if-ends_line.ensures) w.start-is
-            (ap vec_items w.lines-is) c.loop-i.invariant.1,
-      )
-    ]
+use Rattle.console.proofs.conversation.read_calls.Goals.{then-is_none_or, else-is_none_or}
 
 pub returns : goal.returns
 returns c =
-    let found = vec_items c.loop-i.lines in
-    let after = vec_items c.if-start-input.lines in
-    elim c.if-start-input.branch [
-      | then-start-input+in_ok-push-2 w ↦
-          leads_last found after c.args.input.now c.loop-i.start c.loop-i.i c.loop-i-test.false w.if-start-input.true
-          (ap vec_items w.lines-is ∙ (w.in_ok-push-2.ensures.items ∙ ap (λ (o : Option Call). found ++ (o ∷ [])) w.parse_call-then-start-input.ensures.value)) c.loop-i.invariant.1
-      | else-start-input w ↦
-          leads_all found after c.args.input.now c.loop-i.start c.loop-i.i c.loop-i-test.false w.if-start-input.false (ap vec_items w.lines-is) c.loop-i.invariant.1
+    let stands = ended c.args.input.now c.last.result c.is_none_or.result c.last.ensures.value
+    (tested c.last.result c.is_none_or.result _ (λ b told. search rules) c.is_none_or.ensures) in
+    elim c.if-is_none_or.branch [
+      | then-is_none_or w ↦
+          one_more_read c.args.input.now _ (vec_items c.in_ok-lines.lines) _ (stands ∙ ap not w.if-is_none_or.true) c.in_ok-lines.ensures (search rules) (ap vec_items w.lines-is ∙ w.pop.ensures.rest)
+      | else-is_none_or w ↦ all_read c.args.input.now _ (stands ∙ ap not w.if-is_none_or.false) (ap vec_items w.lines-is ∙ c.in_ok-lines.ensures)
     ]

@@ -4,4 +4,4 @@ use Rattle.console.proofs.conversation.show_answers.Given as goal
 
 -- the text so far, and then that of what is left
 abbrev pub invariant-loop-line : goal.invariant-loop-line
-invariant-loop-line l = string_bytes l.text ++ transcript (drop l.line-index l.lines) (drop l.told l.answers) ≡ transcript l.lines l.answers
+invariant-loop-line l = string_bytes l.text ++ transcript (drop l.line-index l.lines) l.answers.rest.now ≡ transcript l.lines l.fn.answers

@@ -1,36 +1,20 @@
-use Rattle.std.proofs.Common.{sym, subst}
-use Rattle.law.specs.declared.Answer.TheVariants.{Barred, Refused}
-use Rattle.watch.specs.Lived.{Extends}
+use Rattle.std.proofs.Common.{rules}
+use Rattle.law.specs.declared.Answer.TheVariants.{Planned, Opened, Barred}
+use Rattle.law.specs.Law.{replied}
+use Rattle.watch.proofs.Steps.{told}
 use Rattle.watch.proofs.Watch.ask.Goals as goal
 
-pub returns-in-Ok-bar : goal.returns-in-Ok-bar
-returns-in-Ok-bar g c =
-    let m = g.G.Game.meaning c.args.self.now.game in
-    record {
-      same = c.in-Ok-bar.ensures.same;
-      extends = subst (λ q. Extends m c.args.self.now.memory q (Barred c.in-Ok-bar.count) c.bar.new.self.memory) (sym c.in-Bar.is) c.in-Ok-bar.ensures.extends;
-    }
+pub returns-in-Plan-clause-extends : goal.returns-in-Plan-clause-extends
+returns-in-Plan-clause-extends g c = told _ _ _ _ _ Planned c.plan.result _ c.in-Plan.is (search rules) c.plan.ensures.extends
 
-pub returns-in-Err-bar : goal.returns-in-Err-bar
-returns-in-Err-bar g c =
-    let m = g.G.Game.meaning c.args.self.now.game in
-    record {
-      same = c.in-Err-bar.ensures.same;
-      extends = subst (λ q. Extends m c.args.self.now.memory q (Refused c.in-Err-bar.fault) c.bar.new.self.memory) (sym c.in-Bar.is) c.in-Err-bar.ensures.extends;
-    }
+pub returns-in-Open-clause-extends : goal.returns-in-Open-clause-extends
+returns-in-Open-clause-extends g c = told _ _ _ _ _ Opened c.open.result _ c.in-Open.is (search rules) c.open.ensures.extends
 
-pub returns-in-Ok-lift : goal.returns-in-Ok-lift
-returns-in-Ok-lift g c =
-    let m = g.G.Game.meaning c.args.self.now.game in
-    record {
-      same = c.in-Ok-lift.ensures.same;
-      extends = subst (λ q. Extends m c.args.self.now.memory q (Barred c.in-Ok-lift.count) c.lift.new.self.memory) (sym c.in-Lift.is) c.in-Ok-lift.ensures.extends;
-    }
+pub returns-in-Reply-clause-extends : goal.returns-in-Reply-clause-extends
+returns-in-Reply-clause-extends g c = told _ _ _ _ _ replied c.reply.result _ c.in-Reply.is (search rules) c.reply.ensures.extends
 
-pub returns-in-Err-lift : goal.returns-in-Err-lift
-returns-in-Err-lift g c =
-    let m = g.G.Game.meaning c.args.self.now.game in
-    record {
-      same = c.in-Err-lift.ensures.same;
-      extends = subst (λ q. Extends m c.args.self.now.memory q (Refused c.in-Err-lift.fault) c.lift.new.self.memory) (sym c.in-Lift.is) c.in-Err-lift.ensures.extends;
-    }
+pub returns-in-Bar-clause-extends : goal.returns-in-Bar-clause-extends
+returns-in-Bar-clause-extends g c = told _ _ _ _ _ Barred c.bar.result _ c.in-Bar.is (search rules) c.bar.ensures.extends
+
+pub returns-in-Lift-clause-extends : goal.returns-in-Lift-clause-extends
+returns-in-Lift-clause-extends g c = told _ _ _ _ _ Barred c.lift.result _ c.in-Lift.is (search rules) c.lift.ensures.extends

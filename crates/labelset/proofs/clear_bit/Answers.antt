@@ -1,9 +1,0 @@
-use Rattle.std.proofs.Common.{not, ◌&&◌, ap, ◌∙◌}
-use lib.Bits.{bit_or, bit_xor}
-use Rattle.std.proofs.lemmas.Nat.{one_shl}
-use Rattle.labelset.specs.Bits.{has_bit}
-use Rattle.labelset.proofs.Bits.{bit_out, bit_one}
-use Rattle.labelset.proofs.clear_bit.Goals as goal
-
-pub returns : goal.returns
-returns c x = ap (λ n. has_bit (bit_xor n (bit_or n c.args.set)) x) (one_shl c.args.label 64 c.requires) ∙ bit_out _ c.args.set x ∙ ap (λ t. not t && has_bit c.args.set x) (bit_one c.args.label x)
