@@ -169,7 +169,8 @@ fn number_rows(rows: &mut [Row])
 }
 
 // Reads a sheet into tables. After a refusal they hold what was read so far.
-// Kept as two parameters here and above: the call lends two tables, and with a struct of both each clause is longer.
+// Kept as parameters, here and above: the call is given bytes and lends two tables, and with a struct of them each clause
+// is longer.
 fn read_all(bytes: &[u8], rows: &mut [Row], moves: &mut [Move]) -> Result<Counts, SheetFault>
     ensures { shown_all result rows.new moves.new ≡ tables_after rows.old moves.old bytes.now }
 {

@@ -33,7 +33,8 @@ fn rank_of_start<G: Game>(game: &G, cells: &[Cell], s: usize) -> Option<u32>
     }
 }
 
-// The highest rank of a start; 0 where none has one.
+// The highest rank of a start.
+// Kept as a number: 0 where no start has a rank, and what is said then is a number.
 fn highest_rank<G: Game>(game: &G, cells: &[Cell]) -> u32
     ensures { result ≡ highest (start_rank (G.meaning game.now) (ranking_in cells.now).rank) (G.meaning game.now).size }
 {
