@@ -8,7 +8,7 @@ use sheet::{NO_MOVE, NO_ROW};
 use std::alloc::Global;
 use std::fs;
 use std::io::Write;
-use tables::{BYTES, MOVES, ROWS};
+use tables::{BYTES, MOVES, ROWS, in_use};
 
 // Answers over this length are told by their first line, their length and how many lines they have.
 const LONG: usize = 200;
@@ -91,9 +91,10 @@ fn rewritten(heap: Global, bytes: &[u8]) -> anyhow::Result<Vec<u8>> {
     let mut rows = vec![in heap; NO_ROW; ROWS]?;
     let mut moves = vec![in heap; NO_MOVE; MOVES]?;
     let mut out = vec![in heap; 0u8; BYTES]?;
-    let sheet = tables::open(bytes, rows.as_mut_slice(), moves.as_mut_slice()).map_err(|_| anyhow!(
-        "not read"
-    ))?;
+    let counts = reader::read(bytes, rows.as_mut_slice(), moves.as_mut_slice()).map_err(
+        |_| anyhow!("not read"),
+    )?;
+    let sheet = in_use(counts, rows.as_slice(), moves.as_slice());
     let length = writer::write(sheet.rows, sheet.moves, bytes, out.as_mut_slice()).map_err(
         |_| anyhow!("not written"),
     )?;

@@ -1,6 +1,9 @@
 // One game in both solvers.
+ghost use Rattle.std.specs.Prelude.{◌≡◌};
+ghost use Rattle.compare.specs.Entries.{entry_of};
+
 use game::Game;
-use law::{Fault, Verdict};
+use law::{Fault, Rating, Verdict};
 use listing::{ListFault, list};
 use oracle::Entry;
 use solver::Cell;
@@ -86,7 +89,7 @@ pub fn compare<G: Game + Copy>(heap: Global, game: G, bars: u64) -> Result<Compa
     let agreed = match (plan, oracle::check(&game)) {
         (Ok(verdict), Ok(())) => {
             let entries = oracle::solve(heap, &game, bars)?;
-            let same = verdict == oracle::judge(&game, entries.as_slice())
+            let same = same_verdict(verdict, oracle::judge(&game, entries.as_slice()))
                 && same_entries(&mut watch, entries.as_slice());
             let text = oracle::listing(heap, &game, entries.as_slice())?;
             same && same_listing(heap, &watch, text.as_bytes())?
@@ -107,29 +110,52 @@ fn set_bars<G: Game>(watch: &mut Watch<G>, bars: u64) {
     }
 }
 
+fn same_verdict(verdict: Verdict, other: oracle::Verdict) -> bool {
+    let expected = match other {
+        oracle::Verdict::Held(most) => Verdict::Held(most),
+        oracle::Verdict::Lost(first) => Verdict::Lost(first),
+    };
+    verdict == expected
+}
+
 // Whether the faults are the same, and have the number, the state and the label of their kind.
 // Kept: the numbers are spelled again, as a test of those in law.
-fn same_fault(fault: Fault, other: Fault) -> bool {
-    let named = match other {
-        Fault::Size => (8, 0, 0),
-        Fault::NoStart => (9, 0, 0),
-        Fault::Stuck { state } => (10, state, 0),
-        Fault::KeepsTurn { state, label } => (11, state, label),
-        Fault::PublicStart { state } => (12, state, 0),
-        _ => (0, 0, 0),
+fn same_fault(fault: Fault, other: oracle::Fault) -> bool {
+    let (expected, named) = match other {
+        oracle::Fault::Size => (Fault::Size, (8, 0, 0)),
+        oracle::Fault::NoStart => (Fault::NoStart, (9, 0, 0)),
+        oracle::Fault::NoLabel(state) => (Fault::Stuck { state }, (10, state, 0)),
+        oracle::Fault::KeepsTurn(state, label) => (
+            Fault::KeepsTurn { state, label },
+            (11, state, label),
+        ),
+        oracle::Fault::PublicStart(state) => (Fault::PublicStart { state }, (12, state, 0)),
     };
-    fault == other && (fault.number(), fault.state(), fault.label()) == named
+    fault == expected && (fault.number(), fault.state(), fault.label()) == named
 }
 
 // Whether every state has the rank and the choice of its entry, in its cell and by its rating.
 fn same_entries<G: Game>(watch: &mut Watch<G>, entries: &[Entry]) -> bool {
     entries.iter().enumerate().all(|(state, entry)| {
-        // Kept: no From turns a cell into an entry, since neither type is this crate's, and neither solver's crate knows
-        // the other.
+        // Kept, here and below: no From turns a cell or a rating into an entry, since none of the types is this crate's, and
+        // neither solver's crate knows the other.
         let Cell { rank, choice } = solver::cell_at(watch.cells(), state);
-        let rated = watch.rate(state).map(Entry::from);
+        let rated = watch.rate(state).map(entry_of);
         Entry { rank, choice } == *entry && rated == Ok(*entry)
     })
+}
+
+// The rank and the choice that a rating shows.
+fn entry_of(rating: Rating) -> Entry
+    ensures { result ≡ entry_of rating }
+{
+    let (rank, choice) = match rating {
+        Rating::Done => (Some(0), None),
+        Rating::Kiosk { rank, choice } => (Some(rank), Some(choice)),
+        Rating::Public { rank } => (Some(rank), None),
+        _ => (None, None),
+    };
+    Entry { rank, choice }
 }
 
 fn same_listing<G: Game>(heap: Global, watch: &Watch<G>, text: &[u8]) -> Result<bool, AllocError> {

@@ -22,6 +22,10 @@ fn read_parts(heap: Global, input: &[u8]) -> Result<Vec<Option<Call>>, AllocErro
 fn read_calls(heap: Global, input: &[u8]) -> Result<Vec<Option<Call>>, AllocError>
     ensures { IfOk result (λ v. v.items ≡ calls_in input.now) }
 {
+    // No line takes no memory.
+    if input.is_empty() {
+        return Ok(Vec::new(heap));
+    }
     let mut lines = read_parts(heap, input)?;
     // What follows the last line feed is a line only if something stands there.
     if input.last().is_none_or(|c| *c == b'\n') {

@@ -20,10 +20,12 @@ impl<G: Game> Plan<'_, G> {
     pub(crate) fn follow(&self, s: usize, label: u8) -> Option<usize>
         ensures { result ≡ follow (G.meaning self.now.game.now) (ranking_in self.now.cells.now) s label }
     {
-        let game = self.game;
-        let is_choice = cell_at(self.cells, s).choice == Some(label);
-        if !game.is_end(s) && (game.is_public(s) || is_choice) {
-            game.next(s, label)
+        // What does not depend on the label comes first, so that it is asked once for all labels of a state.
+        if self.game.is_end(s) {
+            return None;
+        }
+        if self.game.is_public(s) || cell_at(self.cells, s).choice == Some(label) {
+            self.game.next(s, label)
         } else {
             None
         }

@@ -53,8 +53,13 @@ impl<G: Game> Walk<'_, G> {
         ensures later { Later self.old.plan self.old.queue.items self.old.seen self.new.plan self.new.queue.items self.new.seen }
         ensures followed { Followed (G.meaning self.old.plan.game.now) (ranking_in self.old.plan.cells.now) self.new.seen s }
     {
-        for label in 0..self.plan.game.labels() {
-            if let Some(t) = self.plan.follow(s, label) {
+        // A plan of its own, since what lies beside the marks is read again after each one that is written.
+        let plan = Plan {
+            game: self.plan.game,
+            cells: self.plan.cells,
+        };
+        for label in 0..plan.game.labels() {
+            if let Some(t) = plan.follow(s, label) {
                 self.visit(t);
             }
         }
@@ -62,6 +67,8 @@ impl<G: Game> Walk<'_, G> {
 }
 
 // Marks every state that plays by the choices reach, and no other.
+// Inlined: the marks stay where they are, and are not copied.
+#[inline(always)]
 pub(crate) fn reach<'a, G: Game>(plan: Plan<'a, G>) -> Reached<'a, G>
     ensures { result.plan ≡ plan.entry }
 {

@@ -1,18 +1,17 @@
 // A second solver, for tests beside the first: every rule is worked out as it is worded, round after round over all
-// states, with no queue and no list of predecessors. The two have the interface of games, the limit of states and the
-// words for what plan answers in common, and no other code.
+// states, with no queue and no list of predecessors. It shares no code with the first: both are asked over the interface
+// of games, and its limits, its verdict and its faults are its own, so that a slip in the first's shows.
 #![tactic(auto)]
 
-ghost use Rattle.std.specs.Prelude.{◌≡◌};
-ghost use Rattle.oracle.specs.Entries.{entry_of};
-
 use game::Game;
-use law::{Fault, MOST, Rating, Verdict};
 use std::alloc::{AllocError, Global};
 use std::mem;
 
 // No game has more labels.
 const LABELS: u8 = 64;
+
+// A larger game is refused.
+const STATES: usize = 4096;
 
 // The rank and the choice of a state.
 // Kept: the shape of the first solver's cell, since by a rule of the project the second solver has types of its own.
@@ -22,19 +21,22 @@ pub struct Entry {
     pub choice: Option<u8>,
 }
 
-// The rank and the choice that a rating shows.
-impl From<Rating> for Entry {
-    ghost from_gives = { λ r e. e ≡ entry_of r };
+// What plan answers: the greatest rank of a start, or the lowest start without rank.
+// Kept, as is Fault: a second opinion in the first's words would follow the first where those slip.
+#[derive(Clone, Copy, PartialEq, Eq, Debug)]
+pub enum Verdict {
+    Held(u32),
+    Lost(usize),
+}
 
-    fn from(rating: Rating) -> Entry {
-        let (rank, choice) = match rating {
-            Rating::Done => (Some(0), None),
-            Rating::Kiosk { rank, choice } => (Some(rank), Some(choice)),
-            Rating::Public { rank } => (Some(rank), None),
-            _ => (None, None),
-        };
-        Entry { rank, choice }
-    }
+// Why a game has no plan, with the state and the label to blame.
+#[derive(Clone, Copy, PartialEq, Eq, Debug)]
+pub enum Fault {
+    Size,
+    NoStart,
+    PublicStart(usize),
+    NoLabel(usize),
+    KeepsTurn(usize, u8),
 }
 
 // The state behind a label that is feasible.
@@ -59,7 +61,7 @@ fn has_label<G: Game>(game: &G, state: usize) -> bool {
 // The faults in the order in which plan looks for them.
 pub fn check<G: Game>(game: &G) -> Result<(), Fault> {
     let size = game.size();
-    if size == 0 || size > MOST {
+    if size == 0 || size > STATES {
         return Err(Fault::Size);
     }
     if !(0..size).any(|state| game.is_start(state)) {
@@ -74,24 +76,24 @@ pub fn check<G: Game>(game: &G) -> Result<(), Fault> {
 fn check_state<G: Game>(game: &G, state: usize) -> Result<(), Fault> {
     let public = game.is_public(state);
     if public && game.is_start(state) {
-        return Err(Fault::PublicStart { state });
+        return Err(Fault::PublicStart(state));
     }
     if !game.is_end(state) && !has_label(game, state) {
-        return Err(Fault::Stuck { state });
+        return Err(Fault::NoLabel(state));
     }
     let keeps = |label: &u8| step(game, state, *label).is_some_and(|to| game.is_public(to)
         == public);
     match (0..LABELS).find(keeps) {
-        Some(label) => Err(Fault::KeepsTurn { state, label }),
+        Some(label) => Err(Fault::KeepsTurn(state, label)),
         None => Ok(()),
     }
 }
 
 // The rank and choice of every state of a game that plan accepts.
 pub fn solve<G: Game>(heap: Global, game: &G, bars: u64) -> Result<Vec<Entry>, AllocError> {
-    let mut entries = vec![in heap; Entry::default(); game.size().min(MOST)]?;
+    let mut entries = vec![in heap; Entry::default(); game.size().min(STATES)]?;
     // Kept as a loop: each round begins from the entries of the last, memory may run out, and it ends where nothing changes.
-    for k in 0..MOST as u32 {
+    for k in 0..STATES as u32 {
         let ranked = Ranked {
             game,
             entries: entries.as_slice(),
@@ -171,9 +173,10 @@ impl<'a, G: Game> Ranked<'a, G> {
         if self.game.is_public(state) || is_done(self.game, state) {
             return None;
         }
+        // The bars last: so the state is looked up once, and not for each label.
         (0..LABELS).find(|label| {
-            bars >> *label & 1 == 0
-                && step(self.game, state, *label).is_some_and(|to| self.is_ranked(to))
+            step(self.game, state, *label).is_some_and(|to| self.is_ranked(to))
+                && bars >> *label & 1 == 0
         })
     }
 
@@ -211,7 +214,7 @@ impl<'a, G: Game> Ranked<'a, G> {
             .map(|state| self.game.is_start(state))
             .collect(heap)?;
         // Kept as a loop: it ends where nothing is added.
-        for _ in 0..MOST {
+        for _ in 0..STATES {
             if !self.spread(reached.as_mut_slice()) {
                 break;
             }

@@ -9,7 +9,7 @@ ghost use Rattle.planner.specs.Told.{Told};
 use game::Game;
 use listing::list;
 use sheet::{Move, NO_MOVE, NO_ROW, Row};
-use tables::{BYTES, MOVES, ROWS};
+use tables::{BYTES, MOVES, ROWS, in_use};
 use text::{Line, Page};
 use watch::Watch;
 
@@ -65,8 +65,8 @@ fn respond_in(bytes: &[u8], rows: &mut [Row], moves: &mut [Move], out: &mut [u8]
     ensures told { Told (length rows.old) (length moves.old) bytes.now (bytes_text (length rows.old) (length moves.old) bytes.now) }
     ensures short { length (bytes_text (length rows.old) (length moves.old) bytes.now) ≤ 10 + 4096 * 13 }
 {
-    match tables::open(bytes, rows, moves) {
-        Ok(sheet) => plan_game(sheet, out),
+    match reader::read(bytes, rows, moves) {
+        Ok(counts) => plan_game(in_use(counts, rows, moves), out),
         Err(fault) => put_refusal(fault.number(), fault.index(), fault.offset(), out),
     }
 }

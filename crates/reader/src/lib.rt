@@ -75,6 +75,8 @@ fn above(last: Option<Arc>, arc: Arc) -> bool
 
 // The move at `at`, above the last one, or the end with `k` moves and nothing after it.
 // Kept: the record is taken apart into an arc, since the enum of records is a rule of the project and names its fields.
+// Inlined: a call for each move, with its answer through memory, takes half as long again.
+#[inline(always)]
 fn read_tail(
     bytes: &[u8],
     at: usize,

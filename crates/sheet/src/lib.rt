@@ -58,10 +58,8 @@ pub const GOAL: u8 = 8;
 fn target_of(moves: &[Move], label: u8) -> Option<u16>
     ensures { result ≡ target_of label moves.now }
 {
-    moves
-        .iter()
-        .find(|entry| entry.label == label)
-        .map(|entry| entry.target)
+    let place = moves.iter().position(|entry| entry.label == label)?;
+    Some(moves[place].target)
 }
 
 impl Sheet<'_> {

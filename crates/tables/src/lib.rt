@@ -1,11 +1,9 @@
-// A sheet's bytes read into lent tables, as the game over the entries that the reading used.
+// The game over those entries of two tables that a reading used, and the tables that programs lend.
 #![tactic(auto)]
 
-ghost use Rattle.std.specs.Prelude.{◌≡◌, length};
-ghost use Rattle.format.specs.Reading.{read_result};
-ghost use Rattle.tables.specs.Opened.{in_use, over};
+ghost use Rattle.std.specs.Prelude.{◌≡◌, take};
 
-use records::SheetFault;
+use format::Counts;
 use sheet::{Move, Row, Sheet};
 
 // What a program that reads whole sheets lends: tables of these lengths, for so many bytes at most.
@@ -15,18 +13,15 @@ pub const MOVES: usize = 8192;
 
 pub const BYTES: usize = 65536;
 
-// Reads a sheet into two tables, and answers the game over the entries in use.
-pub fn open<'a>(
-    bytes: &[u8],
-    rows: &'a mut [Row],
-    moves: &'a mut [Move],
-) -> Result<Sheet<'a>, SheetFault>
-    ensures { let read = read_result (length rows.old) (length moves.old) bytes.now in over result ≡ in_use read.0 read.1 read.2 }
+// The game over the entries that a reading counted, or over all where there are fewer.
+// Kept beside the reader's call, which says what the tables hold after it, refused or not: of a call that is lent them and
+// answers the game over them, no clause can say so yet.
+pub fn in_use<'a>(counts: Counts, rows: &'a [Row], moves: &'a [Move]) -> Sheet<'a>
+    ensures rows { result.rows.now ≡ take counts.states rows.now }
+    ensures moves { result.moves.now ≡ take counts.moves moves.now }
 {
-    let counts = reader::read(bytes, rows, moves)?;
-    let states = usize::from(counts.states);
-    Ok(Sheet {
-        rows: &rows[..states],
-        moves: &moves[..counts.moves],
-    })
+    Sheet {
+        rows: &rows[..rows.len().min(usize::from(counts.states))],
+        moves: &moves[..moves.len().min(counts.moves)],
+    }
 }

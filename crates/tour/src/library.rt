@@ -1,14 +1,15 @@
 // The library as the README shows it: a sheet is read, planned and played; and the whole run as one list of calls.
 use law::{Answer, Call};
 use sheet::{NO_MOVE, NO_ROW};
+use tables::in_use;
 use watch::Watch;
 use worked::ask_house;
 
 pub fn tour(rt: &HostRuntime, bytes: &[u8]) -> anyhow::Result<()> {
     let mut rows = [NO_ROW; 16];
     let mut moves = [NO_MOVE; 32];
-    if let Ok(sheet) = tables::open(bytes, &mut rows, &mut moves) {
-        let mut watch = Watch::new(sheet);
+    if let Ok(counts) = reader::read(bytes, &mut rows, &mut moves) {
+        let mut watch = Watch::new(in_use(counts, &rows, &moves));
         println!(rt; "plan: {:?}", watch.plan())?;
         println!(rt; "open 0: {:?}", watch.open(0))?;
         println!(rt; "reply: {:?}", watch.reply())?;

@@ -47,6 +47,8 @@ pub struct Memory {
 
 impl Memory {
     // No bars, no run, no plan, and nothing refused.
+    // Inlined: the table is made where it stays, and not copied there.
+    #[inline(always)]
     fn new() -> Memory
         ensures { result ≡ new_memory }
     {
@@ -381,17 +383,14 @@ impl<G: Game> Watch<G> {
     fn rating(&self, s: usize) -> Rating
         ensures { result ≡ rating (G.meaning self.now.game) (ranking_of self.now.memory) s }
     {
-        let public = self.game.is_public(s);
-        match self.memory.rank(s) {
+        let Cell { rank, choice } = cell_at(&self.memory.table.cells, s);
+        match rank {
             Some(_) if is_done(&self.game, s) => Rating::Done,
-            Some(rank) if public => Rating::Public { rank },
-            Some(rank) => self
-                .memory
-                .choice(s)
-                .map_or(Rating::Done, |choice| Rating::Kiosk { rank, choice }),
+            Some(rank) if self.game.is_public(s) => Rating::Public { rank },
+            Some(rank) => choice.map_or(Rating::Done, |choice| Rating::Kiosk { rank, choice }),
             None if self.game.is_end(s) => Rating::LostEnd,
             // Kept: 0 where no label witnesses it, which no list of calls leads to.
-            None if public => Rating::LostPublic {
+            None if self.game.is_public(s) => Rating::LostPublic {
                 label: self.witness(s).unwrap_or(0),
             },
             None => Rating::LostKiosk,

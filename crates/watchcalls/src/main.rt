@@ -7,7 +7,7 @@ use nim::Nim;
 use sheet::{NO_MOVE, NO_ROW};
 use std::io::{Read, Write};
 use std::{env, fs};
-use tables::{BYTES, MOVES, ROWS};
+use tables::{BYTES, MOVES, ROWS, in_use};
 
 fn play<G: Game + Drop>(rt: &HostRuntime, game: G) -> anyhow::Result<()> {
     let mut input = Vec::new(rt.alloc());
@@ -24,8 +24,8 @@ fn play_sheet(rt: &HostRuntime, path: &str) -> anyhow::Result<()> {
         .read_to_end(&mut bytes)?;
     let mut rows = vec![in rt.alloc(); NO_ROW; ROWS]?;
     let mut moves = vec![in rt.alloc(); NO_MOVE; MOVES]?;
-    match tables::open(bytes.as_slice(), rows.as_mut_slice(), moves.as_mut_slice()) {
-        Ok(sheet) => play(rt, sheet),
+    match reader::read(bytes.as_slice(), rows.as_mut_slice(), moves.as_mut_slice()) {
+        Ok(counts) => play(rt, in_use(counts, rows.as_slice(), moves.as_slice())),
         Err(fault) => {
             println!(rt; "{fault}")?;
             Ok(())

@@ -87,11 +87,12 @@ fn move_fits(m: Move, size: usize) -> bool
     m.label < records::LABELS && usize::from(m.target) < size
 }
 
-// Whether each move fits, and labels rise strictly.
+// Whether labels rise strictly, and each move fits.
+// Order first: no more than 256 labels rise, so a row is judged by as few moves, however many it claims.
 fn moves_sound(moves: &[Move], size: usize) -> bool
     ensures { result ≡ moves_sound size 0 moves.now }
 {
-    moves.iter().all(|m| move_fits(*m, size)) && moves.is_sorted_by(|a, b| a.label < b.label)
+    moves.is_sorted_by(|a, b| a.label < b.label) && moves.iter().all(|m| move_fits(*m, size))
 }
 
 // The tables of a sheet, whatever they hold.
@@ -107,24 +108,25 @@ impl<'a> Tables<'a> {
     fn name_sound(&self, row: Row) -> bool
         ensures { result ≡ name_sound self.now.names.now row }
     {
-        let name = self
-            .names
-            .get(row.place..)
-            .and_then(|rest| rest.get(..row.len));
         records::known_flags(row.flags)
             && row.len <= usize::from(records::NAME)
-            && name.is_some_and(records::printable)
+            && self
+                .names
+                .get(row.place..)
+                .and_then(|rest| rest.get(..row.len))
+                .is_some_and(records::printable)
     }
 
     // Whether the row's moves are the next ones of the table, from `first` on, and such as a reading gives.
     fn moves_next(&self, row: Row, first: usize) -> bool
         ensures { result ≡ moves_next (length self.now.rows.now) self.now.moves.now first row }
     {
-        let own = self
-            .moves
-            .get(first..)
-            .and_then(|rest| rest.get(..row.count));
-        row.first == first && own.is_some_and(|moves| moves_sound(moves, self.rows.len()))
+        row.first == first
+            && self
+                .moves
+                .get(first..)
+                .and_then(|rest| rest.get(..row.count))
+                .is_some_and(|moves| moves_sound(moves, self.rows.len()))
     }
 
     // Whether a reading can give the row behind rows that have the moves before `first`.

@@ -1,25 +1,45 @@
-use Rattle.std.proofs.Common.{◌≡◌, ℕ, Bool, true, false, cond, eqb, List, [], ◌∷◌, Some, None, Option, Bor, find, refl, ap, ◌∙◌, rules, tests}
+use Rattle.std.proofs.Common.{◌≡◌, ℕ, zero, suc, ◌+◌, Bool, true, false, cond, not, eqb, ltb, List, [], ◌∷◌, length, Some, None, Option, slice_index_or, refl, sym, ap, ◌∙◌, subst, rules, tests, arith}
+use Rattle.std.specs.List.{prefix_len, position}
 use Rattle.std.specs.Option.{option_map}
+use Rattle.std.proofs.lemmas.Bool.{ltb-true, ltb-false, lt-ltb, le-ltb}
 use Rattle.std.proofs.lemmas.Iterator.{YieldsList-from_slice}
-use Rattle.std.proofs.lemmas.Iterator.Search.{find_from_yields_List}
+use Rattle.std.proofs.lemmas.Iterator.Search.{position_from_yields_List}
 use Rattle.sheet.specs.declared.Move.{Move}
-use Rattle.sheet.specs.Sheets.{target_of}
+use Rattle.sheet.specs.Sheets.{target_of, zero_move}
 use Rattle.sheet.proofs.target_of.Goals as goal
 
-found_or : (b : Bool) (v : Move) (o : Option Move) (t : Option ℕ) → option_map (λ (x : Move). x.target) o ≡ t → option_map (λ (x : Move). x.target) (cond b (Some v) o) ≡ cond b (Some v.target) t
-found_or true v o t h = refl
-found_or false v o t h = h
+-- the target at a place, if there is one
+abbrev target_at : List Move → Option ℕ → Option ℕ
+target_at ms o = option_map (λ n. (slice_index_or ms n zero_move).target) o
 
-target_found : (l : ℕ) (vs : List Move) → option_map (λ (x : Move). x.target) (find (λ (x : Move). eqb x.label l) vs) ≡ target_of l vs
-target_found l [] = refl
-target_found l (v ∷ vs) = found_or (eqb v.label l) v _ _ (target_found l vs)
+-- one place more before it and one move more behind it
+later : (c : Bool) (n k : ℕ) → ltb n k ≡ c → ltb (suc n) (suc k) ≡ c
+later true n k h = lt-ltb (suc n) (suc k) (omega (arith, ltb-true n k h))
+later false n k h = le-ltb (suc n) (suc k) (omega (arith, ltb-false n k h))
 
-behind : (o : Option (Bor Move)) → option_map (λ (b : Bor Move). b.now.target) o ≡ option_map (λ (x : Move). x.target) (option_map (λ (b : Bor Move). b.now) o)
-behind None = refl
-behind (Some b) = refl
+one_more : (b c : Bool) (m : Move) (ms : List Move) (n k : ℕ) (t : Option ℕ) → k ≡ suc n → ltb n (length ms) ≡ c → target_at ms (cond c (Some n) None) ≡ t
+    → target_at (m ∷ ms) (let j = cond (not b) k zero in cond (ltb j (suc (length ms))) (Some j) None) ≡ cond b (Some m.target) t
+one_more true c m ms n k t is e h = ap (λ (x : Bool). target_at (m ∷ ms) (cond x (Some zero) None)) (lt-ltb zero (suc (length ms)) (omega arith))
+one_more false c m ms n k t is e h = subst (λ (j : ℕ). target_at (m ∷ ms) (cond (ltb j (suc (length ms))) (Some j) None) ≡ t) (sym is) (further c e h)
+  where
+    further : (c : Bool) → ltb n (length ms) ≡ c → target_at ms (cond c (Some n) None) ≡ t → target_at (m ∷ ms) (cond (ltb (suc n) (suc (length ms))) (Some (suc n)) None) ≡ t
+    further true e h = ap (λ (x : Bool). target_at (m ∷ ms) (cond x (Some (suc n)) None)) (later true n (length ms) e) ∙ h
+    further false e h = ap (λ (x : Bool). target_at (m ∷ ms) (cond x (Some (suc n)) None)) (later false n (length ms) e) ∙ h
+
+placed : (l : ℕ) (ms : List Move) → target_at ms (position (λ (x : Move). eqb x.label l) ms) ≡ target_of l ms
+placed l [] = refl
+placed l (m ∷ ms) =
+    let n : ℕ = prefix_len (λ (x : Move). not (eqb x.label l)) ms in
+    one_more (eqb m.label l) (ltb n (length ms)) m ms n (1 + n) (target_of l ms) (omega arith) refl (placed l ms)
+
+pub returns-in_err-place : goal.returns-in_err-place
+returns-in_err-place c =
+    let ms = c.args.moves.now in
+    let at = position_from_yields_List (λ (x : Move). eqb x.label c.args.label) _ _ _ c.position.ensures.ran (YieldsList-from_slice ms cc) (λ x b q k. search (rules, tests)) in
+    c.from_residual.ensures ∙ ap (target_at ms) (sym c.in_err-place.was ∙ at) ∙ placed c.args.label ms
 
 pub returns : goal.returns
 returns c =
-    let found : option_map (λ (b : Bor Move). b.now) c.find.result ≡ find (λ (x : Move). eqb x.label c.args.label) c.args.moves.now = find_from_yields_List (λ (x : Move). eqb x.label c.args.label) _ _ c.find.result c.find.ensures.ran (YieldsList-from_slice c.args.moves.now cc) (λ x b q k. search (rules, tests)) in
-    let mapped : c.map.result ≡ option_map (λ (b : Bor Move). b.now.target) c.find.result = search rules in
-    mapped ∙ behind c.find.result ∙ ap (option_map (λ (x : Move). x.target)) found ∙ target_found c.args.label c.args.moves.now
+    let ms = c.args.moves.now in
+    let at = position_from_yields_List (λ (x : Move). eqb x.label c.args.label) _ _ _ c.position.ensures.ran (YieldsList-from_slice ms cc) (λ x b q k. search (rules, tests)) in
+    ap (target_at ms) (sym c.in_ok-place.was ∙ at) ∙ placed c.args.label ms
