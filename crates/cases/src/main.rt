@@ -91,9 +91,9 @@ fn rewritten(heap: Global, bytes: &[u8]) -> anyhow::Result<Vec<u8>> {
     let mut rows = vec![in heap; NO_ROW; ROWS]?;
     let mut moves = vec![in heap; NO_MOVE; MOVES]?;
     let mut out = vec![in heap; 0u8; BYTES]?;
-    let counts = reader::read(bytes, rows.as_mut_slice(), moves.as_mut_slice()).map_err(
-        |_| anyhow!("not read"),
-    )?;
+    let counts = reader::read(bytes, rows.as_mut_slice(), moves.as_mut_slice()).map_err(|_| anyhow!(
+        "not read"
+    ))?;
     let sheet = in_use(counts, rows.as_slice(), moves.as_slice());
     let length = writer::write(sheet.rows, sheet.moves, bytes, out.as_mut_slice()).map_err(
         |_| anyhow!("not written"),
