@@ -22,7 +22,7 @@ fn read_parts(heap: Global, input: &[u8]) -> Result<Vec<Option<Call>>, AllocErro
 fn read_calls(heap: Global, input: &[u8]) -> Result<Vec<Option<Call>>, AllocError>
     ensures { IfOk result (λ v. v.items ≡ calls_in input.now) }
 {
-    // No line takes no memory.
+    // An input without a line takes no memory.
     if input.is_empty() {
         return Ok(Vec::new(heap));
     }

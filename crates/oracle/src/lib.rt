@@ -1,6 +1,6 @@
 // A second solver, for tests beside the first: every rule is worked out as it is worded, round after round over all
 // states, with no queue and no list of predecessors. It shares no code with the first: both are asked over the interface
-// of games, and its limits, its verdict and its faults are its own, so that a slip in the first's shows.
+// of games, and this one's limits, verdict and faults are its own, so that a slip in the other's shows.
 #![tactic(auto)]
 
 use game::Game;
